@@ -1,0 +1,4 @@
+pub mod Sides
+pub mod Duality
+pub mod Closed
+pub mod Examples
