@@ -45,8 +45,8 @@ part_is Y x a zero h = absurd (omega arith)
 part_is Y x a (suc n) h = elim (cases_eq a n) [
   | inl e ↦ part-suc Y x a n ∙ rw (e, eq-eqb n n refl, part-past Y x n n (omega arith)) (grind (arith, ints, cases_Bool (Y n)))
   | inr ne ↦
-    part-suc Y x a n
-    ∙ rw (ne_eqb a n ne, part_is Y x a n (omega arith)) (grind (arith, ints, cases_Bool (Y n), cases_Bool (Y a)))
+      part-suc Y x a n
+      ∙ rw (ne_eqb a n ne, part_is Y x a n (omega arith)) (grind (arith, ints, cases_Bool (Y n), cases_Bool (Y a)))
 ]
 
 -- ---- all that a set sends out
@@ -131,7 +131,7 @@ full_from Y n (link ∷ links) (x ∷ flow) ends within e =
     let one : carried Y link x ≤ℤ pos (across Y link) = carries (Y link.a) (Y link.b) x link.cap within.0 in
     let more : total Y links flow n ≤ℤ pos (sum_by (across Y) links) = total-le Y n links flow ends.1 within.1 in
     let both : (carried Y link x +ℤ total Y links flow n) ≡ pos (across Y link + sum_by (across Y) links) =
-        sym (total-link Y n link links x flow ends.0) ∙ e ∙ ap pos (sum_by-cons (across Y) link links) in
+    sym (total-link Y n link links x flow ends.0) ∙ e ∙ ap pos (sum_by-cons (across Y) link links) in
     (omega (arith, ints, one, more, both), full_from Y n links flow ends.1 within.1 (omega (arith, ints, one, more, both)))
 
 -- ---- a flow between two routers
@@ -157,7 +157,7 @@ total_is Y links flow n s t k hs ht at_s at_r (suc m) h =
       | inr ne ↦ rw (before, ltb-past s m ne) (elim (cases_Bool (Y m)) [
         | inr out_of ↦ rw out_of (grind (arith, ints, cases_Bool (ltb s m)))
         | inl y ↦
-          rw (y, at_r m (omega arith) ne (λ e. false≢true (sym ht ∙ ap Y (sym e) ∙ y))) (grind (arith, ints, cases_Bool (ltb s m)))
+            rw (y, at_r m (omega arith) ne (λ e. false≢true (sym ht ∙ ap Y (sym e) ∙ y))) (grind (arith, ints, cases_Bool (ltb s m)))
       ])
     ]
 

@@ -41,7 +41,7 @@ IsFull X (link ∷ links) (x ∷ flow) = (carried X link x ≡ pos (across X lin
 -- One link, which carries x, could carry more from u to v.
 abbrev pub LinkLeads : Link → ℤ → ℕ → ℕ → Type 0
 LinkLeads link x u v =
-  ((link.a ≡ u) × (link.b ≡ v) × (x <ℤ pos link.cap)) ⊎ ((link.b ≡ u) × (link.a ≡ v) × (neg_ℤ x <ℤ pos link.cap))
+    ((link.a ≡ u) × (link.b ≡ v) × (x <ℤ pos link.cap)) ⊎ ((link.b ≡ u) × (link.a ≡ v) × (neg_ℤ x <ℤ pos link.cap))
 
 -- Some link could carry more from u to v.
 abbrev pub Leads : List Link → List ℤ → ℕ → ℕ → Type 0

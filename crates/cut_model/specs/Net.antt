@@ -44,7 +44,7 @@ links_fault routers links = place_fault (position (has_end_outside routers) link
 -- The first fault of a number of routers and a list of links, in the order in which faults are listed.
 abbrev pub net_fault : ℕ → List Link → Option NetFault
 net_fault routers links =
-  if routers == 0 then Some NoRouter else
-  if nat_lt 1024 routers then Some TooManyRouters else
-  if nat_lt 8192 (length links) then Some TooManyLinks else
-  links_fault routers links
+    if routers == 0 then Some NoRouter else
+    if nat_lt 1024 routers then Some TooManyRouters else
+    if nat_lt 8192 (length links) then Some TooManyLinks else
+    links_fault routers links

@@ -1,6 +1,6 @@
 //! Networks of routers and links, within their limits.
-ghost use Rattle.std.specs.Prelude.{◌≡◌, ℕ, ◌<◌, ◌≤◌, ◌↔◌, All, IfErr, IfOk, OnOk, IsTrue, Some, None, length};
-ghost use Rattle.cut_model.specs.Net.{IsInLimits, IsLink, net_fault};
+ghost use Rattle.std.specs.Prelude.{◌≡◌, ℕ, ◌<◌, ◌≤◌, ◌↔◌, All, IfErr, IfOk, IfSome, OnOk, IsTrue, Some, None, length, position};
+ghost use Rattle.cut_model.specs.Net.{IsInLimits, IsLink, has_end_outside, has_large_cap, net_fault};
 
 use std::marker::Model;
 use thiserror::Error;
@@ -61,6 +61,24 @@ impl Model for Network {
     ghost invariant = { λ n. IsInLimits n.routers n.links.items };
 }
 
+/// The place of the first link with an end that is no router.
+fn first_outside(routers: u32, links: &[Link]) -> Option<usize>
+    ensures place { result ≡ position (has_end_outside routers) links.now }
+    ensures within { IfSome result (λ i. i < length links.now) }
+{
+    links
+        .iter()
+        .position(|link| link.a >= routers || link.b >= routers)
+}
+
+/// The place of the first link with too large a capacity.
+fn first_large(links: &[Link]) -> Option<usize>
+    ensures place { result ≡ position has_large_cap links.now }
+    ensures within { IfSome result (λ i. i < length links.now) }
+{
+    links.iter().position(|link| link.cap > MOST_CAPACITY)
+}
+
 /// The first fault of a number of routers and a list of links, in two passes over the links.
 fn find_fault(routers: u32, links: &[Link]) -> Option<NetFault>
     ensures { result ≡ net_fault routers links.now }
@@ -74,13 +92,11 @@ fn find_fault(routers: u32, links: &[Link]) -> Option<NetFault>
     if links.len() > MOST_LINKS {
         return Some(NetFault::TooManyLinks);
     }
-    if let Some(i) = links.iter().position(|link| link.a >= routers || link.b >= routers) {
-        return Some(NetFault::EndOutside(i as u32));
+    match (first_outside(routers, links), first_large(links)) {
+        (Some(i), _) => Some(NetFault::EndOutside(i as u32)),
+        (None, Some(i)) => Some(NetFault::CapTooLarge(i as u32)),
+        (None, None) => None,
     }
-    if let Some(i) = links.iter().position(|link| link.cap > MOST_CAPACITY) {
-        return Some(NetFault::CapTooLarge(i as u32));
-    }
-    None
 }
 
 impl Network {
