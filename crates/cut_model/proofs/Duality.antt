@@ -1,13 +1,13 @@
 -- A flow is at most the cost of each set that parts its ends, and equal to it where it fills the set.
 use Rattle.std.proofs.Common.{◌≡◌, ◌≢◌, inl, inr, ℕ, zero, suc, ◌+◌, ◌<◌, ◌≤◌, Bool, true, false, cond, ◌&&◌, List, [], ◌∷◌, sym, ◌∙◌, ap, arith, refl, ltb}
-use Rattle.std.specs.Prelude.{◌==◌, ℤ, pos, negsuc, ◌+ℤ◌, ◌-ℤ◌, ◌≤ℤ◌, nat_abs, sum_by, All}
+use Rattle.std.specs.Prelude.{◌==◌, ℤ, pos, negsuc, ◌+ℤ◌, ◌-ℤ◌, ◌≤ℤ◌, nat_abs, sum_by}
 use Rattle.std.specs.List.{AllByRecursion}
 use Rattle.std.proofs.lemmas.Bool.{cases_Bool, cases_eq, cases_lt, lt-ltb, le-ltb, false≢true, eq-eqb, ne_eqb}
 use Rattle.std.proofs.lemmas.Int.{ints}
 use Rattle.std.proofs.lemmas.List.Elements.{recursion_from_All}
 use Rattle.std.proofs.lemmas.List.Sums.{sum_by-cons}
 use Rattle.cut_model.specs.declared.network.Link.{Link}
-use Rattle.cut_model.specs.Net.{Net, IsLink, IsInLimits}
+use Rattle.cut_model.specs.Net.{Net, IsInLimits}
 use Rattle.cut_model.specs.Cuts.{RouterSet, across, cut_value, differ, IsLeastCut}
 use Rattle.cut_model.specs.Flow.{carried, IsFull, out, IsWithinCaps, IsFlow}
 

@@ -5,7 +5,7 @@ use Rattle.cut_model.specs.declared.network.Link.{Link}
 use Rattle.cut_model.specs.declared.network.NetFault.TheVariants.{NoRouter, TooManyRouters, EndOutside, CapTooLarge}
 use Rattle.cut_model.specs.Net.{Net, net_fault}
 use Rattle.cut_model.specs.Cuts.{cut_value, set_of}
-use Rattle.cut_model.specs.Flow.{IsFlow, out}
+use Rattle.cut_model.specs.Flow.{out}
 
 -- a link by its ends and its capacity
 joins : ℕ → ℕ → ℕ → Link

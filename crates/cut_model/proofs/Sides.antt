@@ -1,18 +1,17 @@
 -- What one word's change does to the truth values.
-use Rattle.std.proofs.Common.{◌≡◌, ◌≢◌, ℕ, ◌+◌, ◌-◌, ◌*◌, ◌/◌, ◌%◌, ◌^◌, ◌<◌, ◌≤◌, min, Bool, true, false, not, cond, eqb, List, ◌++◌, map, take, drop, length, get_or, replicate, set, bit_and, bit_or, count_ones, count_by, refl, sym, ap, ◌∙◌, subst, ⊎_elim, arith, pow_mono, w64}
-use Rattle.std.proofs.lemmas.Bool.{cases_lt, cases_eq, eqb-true, eq-eqb, both_ways}
-use Rattle.std.proofs.lemmas.Bool.Decides.{nat_tests}
+use Rattle.std.proofs.Common.{◌≡◌, ◌≢◌, ℕ, ◌+◌, ◌*◌, ◌/◌, ◌%◌, ◌^◌, ◌<◌, ◌≤◌, Bool, true, false, cond, eqb, List, ◌++◌, take, drop, length, get_or, replicate, set, bit_and, bit_or, count_ones, count_by, refl, sym, ap, ◌∙◌, subst, ⊎_elim, arith, w64}
+use Rattle.std.proofs.lemmas.Bool.{cases_lt, cases_eq}
 use Rattle.std.proofs.lemmas.Grind.{common_steps}
-use Rattle.std.proofs.lemmas.List.{get_or-set_same, get_or-set_other, get_or-replicate, get_or_past, get_or-map, length-set, length-map, length-replicate, ext_get_or, take_all, length-take, map-id}
+use Rattle.std.proofs.lemmas.List.{get_or-set_same, get_or-set_other, get_or-replicate, get_or_past, length-set, length-replicate, ext_get_or, take_all, length-take, map-id}
 use Rattle.std.proofs.lemmas.List.Sums.{sum_by-append, count_by-le-length}
 use Rattle.std.proofs.lemmas.Nat.{or_lt}
-use Rattle.std.proofs.lemmas.Nat.Bits.{bit_at_set_same, bit_at_set_other, bit_at_clear_same, bit_at_clear_other, bit_at_and, bit_at_not, bit_at_ones, bit_at_ones_above, bit_at-zero, bit_at-lt, shr_and_one, same_from_bits_below}
+use Rattle.std.proofs.lemmas.Nat.Bits.{bit_at_set_same, bit_at_set_other, bit_at_clear_same, bit_at_clear_other, bit_at-zero, shr_and_one}
 use Rattle.std.proofs.lemmas.Simd.{ones-mask_l}
 use Rattle.std.proofs.Math.Seq.{take-add}
 use Rattle.std.specs.Int.{bit_at, bit_not}
 use Rattle.std.specs.Int.Bits.{and_lt}
 use lib.Lanes.{mask_l}
-use Rattle.cut_model.specs.Packing.{length-bits_of, get_or-bits_of, bit_of-at, words_of-bits_of, word_of-bits_of}
+use Rattle.cut_model.specs.Packing.{length-bits_of, get_or-bits_of, words_of-bits_of, word_of-bits_of}
 use Rattle.cut_model.specs.Side.{bit_of, bits_of, words_of, IsHeld}
 
 -- ---- what a view says of the fields

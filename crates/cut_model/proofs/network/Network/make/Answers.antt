@@ -1,4 +1,3 @@
-use Rattle.std.proofs.Common.{sym, ◌∙◌}
 use Rattle.cut_model.proofs.Faults.{in_limits_if_faultless}
 use Rattle.cut_model.proofs.network.Network.make.Goals as goal
 

@@ -1,7 +1,5 @@
-use Rattle.std.proofs.Common.{ap, sym, ◌∙◌}
 use Rattle.std.proofs.lemmas.Slice.Eq.{slice_eq-Decides}
 use Rattle.cut_model.specs.declared.network.Link.{Link}
-use Rattle.cut_model.specs.Net.{Net}
 use Rattle.cut_model.proofs.Links.{link_eq, link_eq-Decides, same_net}
 use Rattle.cut_model.proofs.network.Network.same_as.Goals as goal
 
