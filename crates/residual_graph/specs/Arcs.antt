@@ -4,9 +4,13 @@ use Rattle.std.specs.List.{range_with_len}
 use Rattle.cut_model.specs.declared.network.Link.{Link}
 use Rattle.cut_model.specs.Net.{Net}
 
+-- A link of no capacity.
+abbrev pub no_link : Link
+no_link = record { a = 0; b = 0; cap = 0 }
+
 -- The link of an arc, and a link of no capacity where there is no such arc.
 abbrev pub link_of : List Link → ℕ → Link
-link_of links arc = slice_index_or links (arc / 2) (record { a = 0; b = 0; cap = 0 })
+link_of links arc = slice_index_or links (arc / 2) no_link
 
 -- The router that an arc of these links leaves.
 unfoldable pub tail_in : List Link → ℕ → ℕ
