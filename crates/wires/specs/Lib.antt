@@ -1,0 +1,4 @@
+pub mod Beside
+pub mod Bytes
+pub mod Causes
+pub mod Puts

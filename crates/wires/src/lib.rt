@@ -1,0 +1,11 @@
+//! Where bytes come from and where they go, and how that can fail.
+//!
+//! A layer above reads from a [`Source`] and writes to a [`Sink`]. It is promised that every failure it
+//! is told of has a cause: the count of faults of that very object rose in that very call.
+#![tactic(auto)]
+
+mod sinks;
+mod sources;
+
+pub use sinks::Sink;
+pub use sources::{Failed, Source};
