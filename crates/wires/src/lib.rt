@@ -4,8 +4,10 @@
 //! is told of has a cause: the count of faults of that very object rose in that very call.
 #![tactic(auto)]
 
+mod pieces;
 mod sinks;
 mod sources;
 
+pub use pieces::put_pieces;
 pub use sinks::Sink;
 pub use sources::{Failed, Source};
