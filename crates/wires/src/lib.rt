@@ -4,10 +4,20 @@
 //! is told of has a cause: the count of faults of that very object rose in that very call.
 #![tactic(auto)]
 
+mod counting;
+mod faults;
+mod memory;
 mod pieces;
 mod sinks;
 mod sources;
+mod standard;
+mod sure;
 
+pub use counting::CountingSink;
+pub use faults::Failed;
+pub use memory::{MemorySink, MemorySource};
 pub use pieces::put_pieces;
 pub use sinks::Sink;
-pub use sources::{Failed, Source};
+pub use sources::Source;
+pub use standard::{StdSink, StdSource};
+pub use sure::SureSource;

@@ -7,12 +7,7 @@ ghost use Rattle.wires.specs.Beside.{Beside};
 ghost use Rattle.wires.specs.Bytes.{answers_end};
 ghost use Rattle.wires.specs.Causes.{HasCause};
 
-use thiserror::Error;
-
-/// A read or a put failed. What failed is known by the count of faults that rose.
-#[derive(Clone, Copy, PartialEq, Eq, Debug, Error)]
-#[error("the input or output failed")]
-pub struct Failed;
+use crate::Failed;
 
 /// Gives bytes in order, once.
 pub trait Source {

@@ -1,7 +1,7 @@
 use Rattle.std.proofs.Common.{ℕ, List, [], ◌≡◌, ◌<◌, ◌≤◌, ◌+◌, ◌++◌, Ok, Err, length, take, drop, map, get_or, sym, ap, ◌∙◌, subst, take_all, arith, refl}
 use Rattle.std.specs.List.{concat}
 use denote.Bor.{Bor}
-use Rattle.wires.specs.declared.sources.Failed.{Failed}
+use Rattle.wires.specs.declared.faults.Failed.{Failed}
 use Rattle.wires.specs.Puts.{Puts}
 use Rattle.wires.proofs.Joins.{concat_more, concat_around}
 use Rattle.wires.proofs.Puts.{puts_none, puts_then, puts_failed}
@@ -27,7 +27,7 @@ loop-piece-preserved g c =
     let one : Puts {E = Failed} sink.written sink.write_faults sink.beside_sink sink.takes c.loop-piece.sink c.put.new.self (Ok tt) (text (get_or pieces i no_piece)) =
     record { bytes = put.bytes; cause = put.cause; beside = put.beside; sure = put.sure; room = put.room } in
     subst (λ whole. Puts {E = Failed} sink.written sink.write_faults sink.beside_sink sink.takes c.args.sink.now c.put.new.self (Ok tt) whole)
-      (sym (concat_more text pieces i no_piece c.loop-piece-test.true)) (puts_then _ _ c.loop-piece.invariant one)
+    (sym (concat_more text pieces i no_piece c.loop-piece-test.true)) (puts_then _ _ c.loop-piece.invariant one)
 
 pub returns : goal.returns
 returns g c =
@@ -47,6 +47,6 @@ returns-in_err-put g c =
     let rest = concat (map text (drop (i + 1) pieces)) in
     record {
       puts = subst (λ whole. Puts {E = Failed} sink.written sink.write_faults sink.beside_sink sink.takes c.args.sink.now c.put.new.self end.result whole)
-        (sym (concat_around text pieces i no_piece c.loop-piece-test.true))
-        (puts_then _ _ c.loop-piece.invariant (puts_failed (text (get_or pieces i no_piece)) rest end.result end.ensures.0 one));
+          (sym (concat_around text pieces i no_piece c.loop-piece-test.true))
+          (puts_then _ _ c.loop-piece.invariant (puts_failed (text (get_or pieces i no_piece)) rest end.result end.ensures.0 one));
     }

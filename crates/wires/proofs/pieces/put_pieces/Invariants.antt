@@ -1,6 +1,6 @@
 use Rattle.std.proofs.Common.{map, take, Ok}
 use Rattle.std.specs.List.{concat}
-use Rattle.wires.specs.declared.sources.Failed.{Failed}
+use Rattle.wires.specs.declared.faults.Failed.{Failed}
 use Rattle.wires.specs.Puts.{Puts}
 use Rattle.wires.proofs.pieces.put_pieces.Given as goal
 
