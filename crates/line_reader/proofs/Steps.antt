@@ -3,6 +3,7 @@ use Rattle.std.proofs.Common.{
   ◌≡◌,
   ℕ,
   ◌+◌,
+  ◌<◌,
   List,
   [],
   ◌∷◌,
@@ -19,7 +20,7 @@ use Rattle.std.proofs.Common.{
   subst,
   length-append,
 }
-use Rattle.std.proofs.lemmas.List.{append-nil}
+use Rattle.std.proofs.lemmas.List.{append-nil, length-take}
 use Rattle.std.proofs.lemmas.List.Elements.{All-append}
 use Rattle.std.specs.declared.option.Option.{Option}
 use Rattle.std.specs.Io.KnownBytes.{Consumes, prepend_known}
@@ -155,3 +156,7 @@ nothing (x ∷ xs) none = absurd (omega arith)
 pub front_empty : (line : List ℕ) → front_of line ≡ [] → line ≡ []
 front_empty [] is = refl
 front_empty (b ∷ line) is = absurd (cc)
+
+-- only a line that isn't empty has a front that isn't empty
+pub front_some : (front line : List ℕ) → front ≡ front_of line → 0 < length front → 0 < length line
+front_some front line is some = omega (arith, some, ap length is, length-take 513 line)

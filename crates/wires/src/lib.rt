@@ -12,6 +12,8 @@ mod sinks;
 mod sources;
 mod standard;
 mod sure;
+#[cfg(test)]
+mod tests;
 
 pub use counting::CountingSink;
 pub use faults::Failed;

@@ -1,6 +1,5 @@
 use Rattle.std.proofs.Common.{arith, ◌≡◌, ◌<◌, ◌+◌, ◌∙◌, length, refl, ap, sym, [], Ok, inl, inr, subst}
-use Rattle.std.proofs.lemmas.List.{length-take}
-use Rattle.line_reader.proofs.Steps.{begun, found, passed, read_on, passes, nothing, front_empty}
+use Rattle.line_reader.proofs.Steps.{begun, found, passed, read_on, passes, nothing, front_empty, front_some}
 use Rattle.line_reader.specs.Held.{Held}
 use Rattle.line_reader.specs.Passing.{Passes}
 use Rattle.line_reader.proofs.reader.LineReader.next_line.Goals as goal
@@ -56,8 +55,7 @@ returns-else-is_empty-clause-reads g c =
     let read : c.fill.new.self.taken ≡ c.take_part.new.self.taken + length c.fill.new.self.bytes =
     omega (arith, filled.count.0, filled.count.1) in
     let end = read_on c.fill.new.self w part.1 filled.bytes read in
-    let line : 0 < length c.take_part.new.line = c.if-is_empty.ensures.some refl in
-    let some : 0 < length end.before = omega (arith, line, ap length end.front, length-take 513 end.before) in
+    let some = front_some c.take_part.new.line end.before end.front (c.if-is_empty.ensures.some refl) in
     (end.before, passes end none, some, end.front, filled.end (ap Ok zero))
 
 pub loop-self-preserved : goal.loop-self-preserved
