@@ -7,6 +7,8 @@
 mod lines;
 mod reader;
 mod search;
+#[cfg(test)]
+mod tests;
 
 pub use lines::Line;
 pub use reader::{LineReader, Next};
