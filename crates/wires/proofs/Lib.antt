@@ -1,0 +1,4 @@
+pub mod Examples
+pub mod Fronts
+pub mod Joins
+pub mod Puts

@@ -1,0 +1,99 @@
+-- Texts that are put one after another.
+use Rattle.std.proofs.Common.{◌≡◌, ℕ, ◌+◌, ◌-◌, ◌^◌, ◌≤◌, min, List, [], ◌++◌, length, take, Bool, None, Some, Ok, Err, Result, OnErr, IsTrue, refl, sym, ap, ◌∙◌, arith, add_assoc, append_assoc, subst, length-append, zero-add}
+use Rattle.std.proofs.lemmas.List.{take-append-le, append-nil}
+use Rattle.std.proofs.Math.Seq.{take-append-add}
+use Rattle.std.specs.declared.option.Option.{Option}
+use Rattle.std.specs.Io.KnownBytes.{Appends}
+use Rattle.std.specs.Result.{IsErr, IsOk}
+use Rattle.wires.specs.Beside.{Beside}
+use Rattle.wires.specs.Bytes.{PutAppends}
+use Rattle.wires.specs.Causes.{HasCause, Rose}
+use Rattle.wires.specs.Puts.{Puts}
+
+-- known bytes that stay grow by nothing
+pub Appends-none : (a : Option (List ℕ)) → Appends a a []
+Appends-none None = tt
+Appends-none (Some u) = sym (append-nil u)
+
+-- known bytes that grow by one list and then by another grow by both
+pub Appends-append : (a b c : Option (List ℕ)) (x y : List ℕ) → Appends a b x → Appends b c y → Appends a c (x ++ y)
+Appends-append None b c x y p q = tt
+Appends-append (Some u) None c x y p q = absurd p
+Appends-append (Some u) (Some v) None x y p q = absurd q
+Appends-append (Some u) (Some v) (Some w) x y p q = q ∙ ap (λ l. l ++ y) p ∙ append_assoc u x y
+
+-- a whole text, and then what else is put
+pub PutAppends-append : {E : Type 0} (a b c : Option (List ℕ)) (r : Result (Unit {0}) E) (x y : List ℕ)
+    → Appends a b x → PutAppends b c r y → PutAppends a c r (x ++ y)
+PutAppends-append a b c (Ok u) x y p q = Appends-append a b c x y p q
+PutAppends-append a b c (Err e) x y p q =
+    let within : length x + q.0 ≤ length (x ++ y) = omega (arith, q.1, length-append x y) in (
+      length x + q.0,
+      within,
+      subst (Appends a c) (sym (take-append-add x y q.0)) (Appends-append a b c x (take q.0 y) p q.2),
+    )
+
+-- a front of a text is a front of a longer one
+pub PutAppends-front : {E : Type 0} (a b : Option (List ℕ)) (e : E) (x y : List ℕ)
+    → (n : ℕ) × (n ≤ length x) × Appends a b (take n x) → PutAppends a b (Err e) (x ++ y)
+PutAppends-front a b e x y p =
+    let within : p.0 ≤ length (x ++ y) = omega (arith, p.1, length-append x y) in
+    (p.0, within, subst (Appends a b) (sym (take-append-le p.0 x y p.1)) p.2)
+
+-- a fault that rose from a later count rose from an earlier one
+pub Rose-later : (before mid now : ℕ) → before ≤ mid → Rose mid now → Rose before now
+Rose-later before mid now low rose = grind arith
+
+-- a call that didn't fail, and then another
+pub HasCause-then : {T U E F : Type 0} (before mid now : ℕ) (r : Result T E) (s : Result U F)
+    → HasCause before mid r → HasCause mid now s → HasCause before now s
+HasCause-then before mid now r (Ok u) p q = record { later = omega (arith, p.later, q.later); failed = tt }
+HasCause-then before mid now r (Err e) p q =
+    record { later = omega (arith, p.later, q.later); failed = Rose-later before mid now p.later q.failed }
+
+-- the length of two texts and something more
+length_on : (x y : List ℕ) (n : ℕ) → length (x ++ y) + n ≡ length x + (length y + n)
+length_on x y n = omega (arith, length-append x y)
+
+-- no text at all is put by doing nothing
+pub puts_none : {S E : Type 0} (written : S → Option (List ℕ)) (write_faults : S → ℕ) (beside_sink : S → Beside)
+    (takes : S → ℕ → Bool) (sink : S) → Puts {E = E} written write_faults beside_sink takes sink sink (Ok tt) []
+puts_none written write_faults beside_sink takes sink = record {
+  bytes = Appends-none (written sink);
+  cause = record { later = omega arith; failed = tt };
+  beside = refl;
+  sure = λ n h. refl;
+  room = λ n h. subst (λ k. IsTrue (takes sink k)) (zero-add n) h;
+}
+
+-- a whole text was put, and then another, whose answer stands
+pub puts_then : {S D E : Type 0} {written : S → Option (List ℕ)} {write_faults : S → ℕ} {beside_sink : S → Beside}
+    {takes : S → ℕ → Bool} {old mid new : S} {u : Unit {0}} {result : Result (Unit {0}) E} (x y : List ℕ)
+    → Puts {E = D} written write_faults beside_sink takes old mid (Ok u) x
+    → Puts written write_faults beside_sink takes mid new result y
+    → Puts written write_faults beside_sink takes old new result (x ++ y)
+puts_then {written = written} {write_faults = faults} {takes = takes} {old = old} {mid = mid} {new = new} {u = u} {result = result} x y p q =
+    let longer : (n : ℕ) → IsTrue (takes old (length (x ++ y) + n)) → IsTrue (takes mid (length y + n)) =
+    λ n h. p.room (length y + n) (subst (λ k. IsTrue (takes old k)) (length_on x y n) h) in record {
+      bytes = PutAppends-append (written old) (written mid) (written new) result x y p.bytes q.bytes;
+      cause = HasCause-then (faults old) (faults mid) (faults new) (Ok u) result p.cause q.cause;
+      beside = q.beside ∙ p.beside;
+      sure = λ n h. q.sure n (longer n h);
+      room = λ n h. q.room n (longer n h);
+    }
+
+-- a text failed, and what should have followed it isn't put
+pub puts_failed : {S D E : Type 0} {written : S → Option (List ℕ)} {write_faults : S → ℕ} {beside_sink : S → Beside}
+    {takes : S → ℕ → Bool} {old new : S} {d : D} (x y : List ℕ) (result : Result (Unit {0}) E) → IsErr result
+    → Puts {E = D} written write_faults beside_sink takes old new (Err d) x
+    → Puts written write_faults beside_sink takes old new result (x ++ y)
+puts_failed x y (Ok u) is p = absurd (cc)
+puts_failed {takes = takes} {old = old} x y (Err e) is p =
+    let never : (n : ℕ) → IsTrue (takes old (length (x ++ y) + n)) → ⊥ =
+    λ n h. let ok = p.sure (length y + n) (subst (λ k. IsTrue (takes old k)) (length_on x y n) h) in absurd (cc) in record {
+      bytes = PutAppends-front _ _ e x y p.bytes;
+      cause = record { later = p.cause.later; failed = p.cause.failed };
+      beside = p.beside;
+      sure = λ n h. absurd (never n h);
+      room = λ n h. absurd (never n h);
+    }

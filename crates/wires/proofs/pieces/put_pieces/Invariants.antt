@@ -1,0 +1,11 @@
+use Rattle.std.proofs.Common.{map, take, Ok}
+use Rattle.std.specs.List.{concat}
+use Rattle.wires.specs.declared.faults.Failed.{Failed}
+use Rattle.wires.specs.Puts.{Puts}
+use Rattle.wires.proofs.pieces.put_pieces.Given as goal
+
+abbrev pub invariant-loop-piece : goal.invariant-loop-piece
+invariant-loop-piece g l =
+    let sink = g.K.Sink in
+    let put = concat (map (λ p. p.now) (take l.piece-index l.pieces)) in
+    Puts {E = Failed} sink.written sink.write_faults sink.beside_sink sink.takes l.fn.sink l.sink (Ok tt) put

@@ -1,0 +1,5 @@
+pub mod Beside
+pub mod Bytes
+pub mod Causes
+pub mod Memory
+pub mod Puts

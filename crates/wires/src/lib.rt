@@ -1,0 +1,25 @@
+//! Where bytes come from and where they go, and how that can fail.
+//!
+//! A layer above reads from a [`Source`] and writes to a [`Sink`]. It is promised that every failure it
+//! is told of has a cause: the count of faults of that very object rose in that very call.
+#![tactic(auto)]
+
+mod counting;
+mod faults;
+mod memory;
+mod pieces;
+mod sinks;
+mod sources;
+mod standard;
+mod sure;
+#[cfg(test)]
+mod tests;
+
+pub use counting::CountingSink;
+pub use faults::Failed;
+pub use memory::{MemorySink, MemorySource};
+pub use pieces::put_pieces;
+pub use sinks::Sink;
+pub use sources::Source;
+pub use standard::{StdSink, StdSource};
+pub use sure::SureSource;
