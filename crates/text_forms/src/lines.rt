@@ -22,9 +22,15 @@ pub fn is_long(line: &[u8]) -> bool
 pub fn without_return(line: &[u8]) -> &[u8]
     ensures { result.now ≡ line_text line.now }
 {
-    match line {
-        [text @ .., b'\r'] => text,
-        _ => line,
+    match line.split_last() {
+        Some((last, text)) => {
+            if *last == b'\r' {
+                text
+            } else {
+                line
+            }
+        }
+        None => line,
     }
 }
 

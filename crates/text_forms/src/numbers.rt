@@ -3,7 +3,7 @@
 ghost use Rattle.std.specs.Prelude.{◌≡◌, ◌-◌, ◌^◌, min, IsTrue};
 ghost use Rattle.std.specs.List.{list_all};
 ghost use Rattle.std.specs.Option.{option_map};
-ghost use Rattle.text_forms.specs.Numbers.{is_digit as digit, is_number as number, number_in, value_of_digits};
+ghost use Rattle.text_forms.specs.Numbers.{is_digit as digit, number_in, value_of_digits};
 
 /// An ASCII digit.
 fn is_digit(byte: u8) -> bool
@@ -12,11 +12,11 @@ fn is_digit(byte: u8) -> bool
     matches!(byte, b'0'..=b'9')
 }
 
-/// One digit or more.
-fn is_number(bytes: &[u8]) -> bool
-    ensures { result ≡ number bytes.now }
+/// Each byte is a digit.
+fn are_digits(bytes: &[u8]) -> bool
+    ensures { result ≡ list_all digit bytes.now }
 {
-    !bytes.is_empty() && bytes.iter().all(|byte| is_digit(*byte))
+    bytes.iter().all(|byte| is_digit(*byte))
 }
 
 /// The decimal value of digits; one past the type is given as its largest value.
@@ -36,7 +36,7 @@ fn capped_value(digits: &[u8]) -> u64
 pub fn parse_number(bytes: &[u8]) -> Option<u64>
     ensures { result ≡ option_map (min (2 ^ 64 - 1)) (number_in bytes.now) }
 {
-    if is_number(bytes) {
+    if !bytes.is_empty() && are_digits(bytes) {
         Some(capped_value(bytes))
     } else {
         None

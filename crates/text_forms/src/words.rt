@@ -1,8 +1,7 @@
 //! The words of a line: its longest pieces without blanks.
 
-ghost use Rattle.std.specs.Prelude.{◌≡◌, ◌≢◌, [], ◌∷◌, ◌≤◌, length, drop, MatchOption, not};
-ghost use Rattle.std.specs.List.{prefix_len, position_or_len};
-ghost use Rattle.text_forms.specs.Words.{is_blank as blank_byte, words_of, line_words};
+ghost use Rattle.std.specs.Prelude.{◌≡◌, ◌≢◌, [], ◌∷◌, length, nat_lt, not, position, MatchOption};
+ghost use Rattle.text_forms.specs.Words.{is_blank as blank_byte, goes_on, words_of, line_words};
 
 use crate::lines::without_return;
 
@@ -13,33 +12,29 @@ fn is_blank(byte: u8) -> bool
     byte == b' ' || byte == b'\t'
 }
 
-/// How many blanks stand in front of the first word.
-fn count_blanks(bytes: &[u8]) -> usize
-    ensures count { result ≡ prefix_len blank_byte bytes.now }
-    ensures within { result ≤ length bytes.now }
+/// The place of the first byte of a word.
+fn first_letter(bytes: &[u8]) -> Option<usize>
+    ensures { result ≡ position (λ byte. not (blank_byte byte)) bytes.now }
 {
-    bytes
-        .iter()
-        .position(|byte| !is_blank(*byte))
-        .unwrap_or(bytes.len())
+    bytes.iter().position(|byte| !is_blank(*byte))
 }
 
-/// How many bytes the word has that begins here.
-fn word_length(bytes: &[u8]) -> usize
-    ensures count { result ≡ position_or_len blank_byte bytes.now }
-    ensures within { result ≤ length bytes.now }
+/// The place of the first blank.
+fn first_blank(bytes: &[u8]) -> Option<usize>
+    ensures { result ≡ position blank_byte bytes.now }
 {
-    bytes
-        .iter()
-        .position(|byte| is_blank(*byte))
-        .unwrap_or(bytes.len())
+    bytes.iter().position(|byte| is_blank(*byte))
 }
 
-/// The bytes from the first word on. No bytes are left exactly where there is no word.
+/// The bytes from the first word on. None are left exactly where there is no word.
 pub(crate) fn from_first_word(bytes: &[u8]) -> &[u8]
-    ensures { result.now ≡ drop (prefix_len blank_byte bytes.now) bytes.now }
+    ensures same_words { words_of result.now ≡ words_of bytes.now }
+    ensures at_word { goes_on result.now ≡ nat_lt 0 (length result.now) }
 {
-    &bytes[count_blanks(bytes)..]
+    match first_letter(bytes) {
+        Some(start) => &bytes[start..],
+        None => &[],
+    }
 }
 
 /// The first word and what stands behind it; none where there is no word.
@@ -54,7 +49,8 @@ pub fn split_word(bytes: &[u8]) -> Option<(&[u8], &[u8])>
     if text.is_empty() {
         return None;
     }
-    Some(text.split_at(word_length(text)))
+    let end = first_blank(text).unwrap_or(text.len());
+    Some(text.split_at(end))
 }
 
 /// The words, where there are three.
