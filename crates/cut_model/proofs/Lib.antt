@@ -1,0 +1,6 @@
+pub mod Sides
+pub mod Duality
+pub mod Closed
+pub mod Faults
+pub mod Links
+pub mod Examples

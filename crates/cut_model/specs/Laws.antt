@@ -1,0 +1,18 @@
+-- Laws of flows and cuts.
+use Rattle.std.specs.Prelude.{◌≡◌, ℕ, ◌<◌, ◌≤◌, ℤ, List, true, false}
+use Rattle.cut_model.specs.Net.{Net, IsInLimits}
+use Rattle.cut_model.specs.Cuts.{RouterSet, cut_value, IsLeastCut}
+use Rattle.cut_model.specs.Flow.{IsFlow, IsFull}
+
+-- A flow of k from s to t is at most the cost of every set that holds s and lacks t.
+abbrev pub FlowIsAtMost : Type 0
+FlowIsAtMost =
+    (net : Net) → IsInLimits net.routers net.links → (s t : ℕ) (flow : List ℤ) (k : ℕ) →
+    s < net.routers → IsFlow net s t flow k → (Y : RouterSet) → Y s ≡ true → Y t ≡ false → k ≤ cut_value net Y
+
+-- A set that holds s and lacks t, and that a flow of k from s to t fills, is a least cut of cost k.
+abbrev pub FullSideIsLeast : Type 0
+FullSideIsLeast =
+    (net : Net) → IsInLimits net.routers net.links → (s t : ℕ) (flow : List ℤ) (k : ℕ) →
+    s < net.routers → IsFlow net s t flow k → (X : RouterSet) → X s ≡ true → X t ≡ false →
+    IsFull X net.links flow → IsLeastCut net s t X k

@@ -1,0 +1,6 @@
+pub mod Net
+pub mod Side
+pub mod Packing
+pub mod Cuts
+pub mod Flow
+pub mod Laws

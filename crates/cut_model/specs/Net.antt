@@ -1,0 +1,50 @@
+-- Networks and their limits.
+use Rattle.std.specs.Prelude.{ℕ, ◌<◌, ◌≤◌, Bool, ◌||◌, ◌==◌, nat_lt, nat_le, List, length, All, position, Some, None, if◌then◌else◌}
+use Rattle.std.specs.declared.option.Option.{Option}
+use Rattle.cut_model.specs.declared.network.Link.{Link}
+use Rattle.cut_model.specs.declared.network.NetFault.{NetFault}
+use Rattle.cut_model.specs.declared.network.NetFault.TheVariants.{NoRouter, TooManyRouters, TooManyLinks, EndOutside, CapTooLarge}
+
+-- A network is a number of routers and a list of links.
+pub record Net : Type 0 where
+  pub routers : ℕ
+  pub links : List Link
+
+-- A link joins two routers below the number, and its capacity is at most 10^12.
+pub record IsLink (routers : ℕ) (link : Link) : Type 0 where
+  pub a : link.a < routers
+  pub b : link.b < routers
+  pub cap : link.cap ≤ 1000000000000
+
+-- A network has 1 to 1,024 routers and at most 8,192 links, each of which is one among its routers.
+pub record IsInLimits (routers : ℕ) (links : List Link) : Type 0 where
+  pub some : 0 < routers
+  pub few_routers : routers ≤ 1024
+  pub few_links : length links ≤ 8192
+  pub within : All (IsLink routers) links
+
+-- An end of the link is no router below the number.
+abbrev pub has_end_outside : ℕ → Link → Bool
+has_end_outside routers link = nat_le routers link.a || nat_le routers link.b
+
+-- The capacity of the link is above 10^12.
+abbrev pub has_large_cap : Link → Bool
+has_large_cap link = nat_lt 1000000000000 link.cap
+
+-- The fault of the first link that reaches outside, or else of the first too large one, by their places.
+abbrev pub place_fault : Option ℕ → Option ℕ → Option NetFault
+place_fault (Some outside) large = Some (EndOutside outside)
+place_fault None (Some large) = Some (CapTooLarge large)
+place_fault None None = None
+
+-- The fault of links that aren't too many.
+abbrev pub links_fault : ℕ → List Link → Option NetFault
+links_fault routers links = place_fault (position (has_end_outside routers) links) (position has_large_cap links)
+
+-- The first fault of a number of routers and a list of links, in the order in which faults are listed.
+abbrev pub net_fault : ℕ → List Link → Option NetFault
+net_fault routers links =
+    if routers == 0 then Some NoRouter else
+    if nat_lt 1024 routers then Some TooManyRouters else
+    if nat_lt 8192 (length links) then Some TooManyLinks else
+    links_fault routers links

@@ -1,0 +1,146 @@
+//! Networks of routers and links, within their limits.
+ghost use Rattle.std.specs.Prelude.{◌≡◌, ℕ, ◌<◌, ◌≤◌, ◌↔◌, All, IfErr, IfOk, IfSome, OnOk, IsTrue, Some, None, length, position};
+ghost use Rattle.cut_model.specs.Net.{IsInLimits, IsLink, has_end_outside, has_large_cap, net_fault};
+
+use std::marker::Model;
+use thiserror::Error;
+
+/// The greatest number of routers in a network.
+pub const MOST_ROUTERS: u32 = 1024;
+
+/// The greatest number of links in a network.
+pub const MOST_LINKS: usize = 8192;
+
+/// The greatest capacity of a link.
+pub const MOST_CAPACITY: u64 = 1_000_000_000_000;
+
+/// A link between two routers, which carries up to `cap` units in either direction. A link may join
+/// a router to itself, and several links may join the same two routers.
+#[derive(Clone, Copy, PartialEq, Eq, Debug)]
+pub struct Link {
+    /// The end from which a positive flow comes.
+    pub a: u32,
+    /// The end to which a positive flow goes.
+    pub b: u32,
+    /// The capacity, at most 10^12 in a network.
+    pub cap: u64,
+}
+
+/// Why a number of routers and a list of links are no network, the first cause that applies.
+#[derive(Clone, Copy, PartialEq, Eq, Debug, Error)]
+pub enum NetFault {
+    #[error("a network has at least one router")]
+    NoRouter,
+    #[error("a network has at most 1024 routers")]
+    TooManyRouters,
+    #[error("a network has at most 8192 links")]
+    TooManyLinks,
+    /// The place in the list, counted from 0, of the first link with an end that is no router.
+    #[error("link {0} has an end outside the network")]
+    EndOutside(u32),
+    /// The place in the list, counted from 0, of the first link of more than 10^12.
+    #[error("link {0} has too large a capacity")]
+    CapTooLarge(u32),
+}
+
+/// A network within its limits: 1 to 1,024 routers, numbered from 0, and at most 8,192 links, each
+/// between two of the routers and of a capacity of at most 10^12. Contracts see a `Net`.
+#[derive(Drop)]
+pub struct Network {
+    routers: u32,
+    links: Vec<Link>,
+}
+
+impl Model for Network {
+    ghost use Rattle.cut_model.specs.Net.{Net, IsInLimits};
+
+    ghost Value = { Net };
+
+    ghost view = { λ n. record { routers = n.routers; links = n.links.items } };
+
+    ghost invariant = { λ n. IsInLimits n.routers n.links.items };
+}
+
+/// The place of the first link with an end that is no router.
+fn first_outside(routers: u32, links: &[Link]) -> Option<usize>
+    ensures place { result ≡ position (has_end_outside routers) links.now }
+    ensures within { IfSome result (λ i. i < length links.now) }
+{
+    links
+        .iter()
+        .position(|link| link.a >= routers || link.b >= routers)
+}
+
+/// The place of the first link with too large a capacity.
+fn first_large(links: &[Link]) -> Option<usize>
+    ensures place { result ≡ position has_large_cap links.now }
+    ensures within { IfSome result (λ i. i < length links.now) }
+{
+    links.iter().position(|link| link.cap > MOST_CAPACITY)
+}
+
+/// The first fault of a number of routers and a list of links, in two passes over the links.
+fn find_fault(routers: u32, links: &[Link]) -> Option<NetFault>
+    ensures { result ≡ net_fault routers links.now }
+{
+    if routers == 0 {
+        return Some(NetFault::NoRouter);
+    }
+    if routers > MOST_ROUTERS {
+        return Some(NetFault::TooManyRouters);
+    }
+    if links.len() > MOST_LINKS {
+        return Some(NetFault::TooManyLinks);
+    }
+    match (first_outside(routers, links), first_large(links)) {
+        (Some(i), _) => Some(NetFault::EndOutside(i as u32)),
+        (None, Some(i)) => Some(NetFault::CapTooLarge(i as u32)),
+        (None, None) => None,
+    }
+}
+
+impl Network {
+    /// The network of these routers and links, or its first fault with the links handed back. It
+    /// takes no memory, and looks at each link at most twice.
+    pub fn make(routers: u32, links: Vec<Link>) -> Result<Network, (NetFault, Vec<Link>)>
+        ensures fault { IfErr result (λ e. net_fault routers links.items ≡ Some e.0) }
+        ensures links_back { IfErr result (λ e. e.1.items ≡ links.items) }
+        ensures faultless { OnOk result (net_fault routers links.items ≡ None) }
+        ensures value { IfOk result (λ n. n ≡ record { routers = routers; links = links.items }) }
+    {
+        match find_fault(routers, &links) {
+            Some(fault) => Err((fault, links)),
+            None => Ok(Network { routers, links }),
+        }
+    }
+
+    /// The number of routers, from 1 to 1,024.
+    #[inline]
+    pub fn routers(&self) -> u32
+        ensures value { result ≡ self.now.routers }
+        ensures some { 0 < result }
+        ensures most { result ≤ 1024 }
+        ensures limits { IsInLimits self.now.routers self.now.links }
+    {
+        self.routers
+    }
+
+    /// The links in their order, at most 8,192.
+    #[inline]
+    pub fn links(&self) -> &[Link]
+        ensures value { result.now ≡ self.now.links }
+        ensures most { length result.now ≤ 8192 }
+        ensures within { All (IsLink self.now.routers) result.now }
+        ensures limits { IsInLimits self.now.routers self.now.links }
+    {
+        self.links.as_slice()
+    }
+
+    /// Whether both are the same network: the same number of routers, and the same links in the same
+    /// order. It looks at each link at most once.
+    pub fn same_as(&self, other: &Network) -> bool
+        ensures { IsTrue result ↔ (self.now ≡ other.now) }
+    {
+        self.routers == other.routers && self.links == other.links
+    }
+}
