@@ -1,5 +1,5 @@
 -- Where the words of bytes begin and end.
-use Rattle.std.proofs.Common.{◌≡◌, ℕ, suc, ◌+◌, ◌-◌, ◌<◌, ◌≤◌, List, [], ◌∷◌, ◌++◌, Bool, true, false, not, ◌&&◌, length, take, drop, refl, sym, ap, ◌∙◌, inl, inr, arith, nat_lt, Option, Some, None, MatchOption, position, unwrap_or}
+use Rattle.std.proofs.Common.{◌≡◌, ℕ, suc, ◌+◌, ◌-◌, ◌≤◌, List, [], ◌∷◌, ◌++◌, Bool, true, false, not, length, take, drop, refl, sym, ap, ◌∙◌, inl, inr, arith, nat_lt, Some, None, position, unwrap_or}
 use Rattle.std.specs.List.{list_all, position_or_len}
 use Rattle.std.proofs.lemmas.Bool.{cases_Bool, lt-ltb, ltb-false}
 use Rattle.std.proofs.lemmas.List.{take-append-drop, take_rest, drop_all}
@@ -19,8 +19,9 @@ pub words-behind_blanks : (blanks rest : List ℕ) → list_all (λ b. not (is_l
 words-behind_blanks [] rest h = refl
 words-behind_blanks (b ∷ blanks) rest h =
     elim (cases_Bool (is_blank b)) [
-      inl e ↦ rw e (words-behind_blanks blanks rest (rw e at h))
-    | inr e ↦ absurd (let k = rw e at h in cc) ]
+      | inl e ↦ rw e (words-behind_blanks blanks rest (rw e at h))
+      | inr e ↦ absurd (let k = rw e at h in cc)
+    ]
 
 -- a byte of a word joins the word that goes on behind it
 words_of-joins : (b : ℕ) (bytes : List ℕ) → is_blank b ≡ false → goes_on bytes ≡ true
@@ -35,22 +36,26 @@ pub words-of_word : (b : ℕ) (word rest : List ℕ) → list_all is_letter (b �
     → words_of ((b ∷ word) ++ rest) ≡ (b ∷ word) ∷ words_of rest
 words-of_word b [] rest h stops =
     elim (cases_Bool (is_blank b)) [
-      inl e ↦ absurd (let k = rw e at h in cc)
-    | inr e ↦ rw (e, stops) refl ]
+      | inl e ↦ absurd (let k = rw e at h in cc)
+      | inr e ↦ rw (e, stops) refl
+    ]
 words-of_word b (c ∷ word) rest h stops =
     elim (cases_Bool (is_blank b)) [
-      inl e ↦ absurd (let k = rw e at h in cc)
-    | inr e ↦ elim (cases_Bool (is_blank c)) [
-        inl f ↦ absurd (let k = rw (e, f) at h in cc)
-      | inr f ↦ words_of-joins b ((c ∷ word) ++ rest) e (rw f refl) ∙ ap (join_word b) (words-of_word c word rest (rw e at h) stops) ] ]
+      | inl e ↦ absurd (let k = rw e at h in cc)
+      | inr e ↦ elim (cases_Bool (is_blank c)) [
+        | inl f ↦ absurd (let k = rw (e, f) at h in cc)
+        | inr f ↦ words_of-joins b ((c ∷ word) ++ rest) e (rw f refl) ∙ ap (join_word b) (words-of_word c word rest (rw e at h) stops)
+      ]
+    ]
 
 -- no place before the first that passes does
 pub none-before_first : (p : ℕ → Bool) (xs : List ℕ) → list_all (λ x. not (p x)) (take (position_or_len p xs) xs) ≡ true
 none-before_first p [] = refl
 none-before_first p (x ∷ xs) =
     elim (cases_Bool (p x)) [
-      inl e ↦ rw e refl
-    | inr e ↦ rw (e, one_more (position_or_len p xs), e) (none-before_first p xs) ]
+      | inl e ↦ rw e refl
+      | inr e ↦ rw (e, one_more (position_or_len p xs), e) (none-before_first p xs)
+    ]
 
 -- behind the blanks in front a word begins, if anything is left
 pub goes_on-at_letter : (xs : List ℕ)
@@ -58,16 +63,18 @@ pub goes_on-at_letter : (xs : List ℕ)
 goes_on-at_letter [] = refl
 goes_on-at_letter (x ∷ xs) =
     elim (cases_Bool (is_blank x)) [
-      inl e ↦ rw (e, one_more (position_or_len is_letter xs)) (goes_on-at_letter xs)
-    | inr e ↦ rw (e, e) (sym (some_left (length xs))) ]
+      | inl e ↦ rw (e, one_more (position_or_len is_letter xs)) (goes_on-at_letter xs)
+      | inr e ↦ rw (e, e) (sym (some_left (length xs)))
+    ]
 
 -- at the first blank no word goes on
 pub goes_on-at_blank : (xs : List ℕ) → goes_on (drop (position_or_len is_blank xs) xs) ≡ false
 goes_on-at_blank [] = refl
 goes_on-at_blank (x ∷ xs) =
     elim (cases_Bool (is_blank x)) [
-      inl e ↦ rw (e, e) refl
-    | inr e ↦ rw (e, one_more (position_or_len is_blank xs)) (goes_on-at_blank xs) ]
+      | inl e ↦ rw (e, e) refl
+      | inr e ↦ rw (e, one_more (position_or_len is_blank xs)) (goes_on-at_blank xs)
+    ]
 
 -- what stands behind the blanks in front has the same words
 pub words-at_letter : (xs : List ℕ) → words_of (drop (position_or_len is_letter xs) xs) ≡ words_of xs
@@ -80,15 +87,17 @@ words-at_letter xs =
 position-is : (p : ℕ → Bool) (xs : List ℕ) (i : ℕ) → Some i ≡ position p xs → i ≡ position_or_len p xs
 position-is p xs i e =
     elim (cases_Bool (nat_lt (position_or_len p xs) (length xs))) [
-      inl found ↦ let k = rw found at e in cc
-    | inr none ↦ let k = rw none at e in cc ]
+      | inl found ↦ let k = rw found at e in cc
+      | inr none ↦ let k = rw none at e in cc
+    ]
 
 -- where no place passes, all are passed over
 no-position : (p : ℕ → Bool) (xs : List ℕ) → None ≡ position p xs → length xs ≤ position_or_len p xs
 no-position p xs e =
     elim (cases_Bool (nat_lt (position_or_len p xs) (length xs))) [
-      inl found ↦ let k = rw found at e in absurd (cc)
-    | inr none ↦ ltb-false _ _ none ]
+      | inl found ↦ let k = rw found at e in absurd (cc)
+      | inr none ↦ ltb-false _ _ none
+    ]
 
 pub skipped-Some : (bytes : List ℕ) (start : ℕ) → Some start ≡ position is_letter bytes
     → words_of (take (length bytes - start) (drop start bytes)) ≡ words_of bytes
@@ -117,19 +126,21 @@ pub word-first : (text : List ℕ) → goes_on text ≡ true
 word-first [] h = absurd (cc)
 word-first (b ∷ bytes) h =
     elim (cases_Bool (is_blank b)) [
-      inl e ↦ absurd (let k = rw e at h in cc)
-    | inr e ↦
-      let n : ℕ = position_or_len is_blank bytes in
-      let all : list_all is_letter (b ∷ take n bytes) ≡ true = rw e (none-before_first is_blank bytes) in
-      let split = words-of_word b (take n bytes) (drop n bytes) all (goes_on-at_blank bytes) in
-      let whole : b ∷ (take n bytes ++ drop n bytes) ≡ b ∷ bytes = ap (λ xs. b ∷ xs) (take-append-drop n bytes) in
-      word-up_to b bytes n (position_or_len is_blank (b ∷ bytes)) (ap words_of (sym whole) ∙ split) (next-blank b bytes e) ]
+      | inl e ↦ absurd (let k = rw e at h in cc)
+      | inr e ↦
+          let n : ℕ = position_or_len is_blank bytes in
+          let all : list_all is_letter (b ∷ take n bytes) ≡ true = rw e (none-before_first is_blank bytes) in
+          let split = words-of_word b (take n bytes) (drop n bytes) all (goes_on-at_blank bytes) in
+          let whole : b ∷ (take n bytes ++ drop n bytes) ≡ b ∷ bytes = ap (λ xs. b ∷ xs) (take-append-drop n bytes) in
+          word-up_to b bytes n (position_or_len is_blank (b ∷ bytes)) (ap words_of (sym whole) ∙ split) (next-blank b bytes e)
+    ]
 
 position-or_len : (p : ℕ → Bool) (xs : List ℕ) → unwrap_or (position p xs) (length xs) ≡ position_or_len p xs
 position-or_len p xs =
     elim (cases_Bool (nat_lt (position_or_len p xs) (length xs))) [
-      inl found ↦ rw found refl
-    | inr none ↦ rw none (omega (arith, prefix_len-le-length (λ x. not (p x)) xs, ltb-false _ _ none)) ]
+      | inl found ↦ rw found refl
+      | inr none ↦ rw none (omega (arith, prefix_len-le-length (λ x. not (p x)) xs, ltb-false _ _ none))
+    ]
 
 -- the same of the place that a search for the first blank gives
 pub word-to_blank : (text : List ℕ) (end : ℕ) → goes_on text ≡ true

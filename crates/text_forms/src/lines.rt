@@ -2,9 +2,17 @@
 
 ghost use Rattle.std.specs.Prelude.{◌≡◌};
 ghost use Rattle.text_forms.specs.Lines.{is_long as long_line};
-ghost use Rattle.text_forms.specs.Words.{words_of, without_return as line_text, is_remark, is_lone,
-    is_passed as passed_line, is_word_line as word_line, is_load as load_line, is_end as end_line,
-    is_bye as bye_line};
+ghost use Rattle.text_forms.specs.Words.{
+  words_of,
+  without_return as line_text,
+  is_remark,
+  is_lone,
+  is_passed as passed_line,
+  is_word_line as word_line,
+  is_load as load_line,
+  is_end as end_line,
+  is_bye as bye_line,
+};
 
 use crate::words::{from_first_word, split_word};
 
@@ -23,13 +31,7 @@ pub fn without_return(line: &[u8]) -> &[u8]
     ensures { result.now ≡ line_text line.now }
 {
     match line.split_last() {
-        Some((last, text)) => {
-            if *last == b'\r' {
-                text
-            } else {
-                line
-            }
-        }
+        Some((last, text)) => { if *last == b'\r' { text } else { line } }
         None => line,
     }
 }

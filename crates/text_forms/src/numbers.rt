@@ -26,7 +26,9 @@ fn capped_value(digits: &[u8]) -> u64
 {
     let mut value: u64 = 0;
     for byte in digits {
-        value = value.saturating_mul(10).saturating_add(u64::from(*byte - b'0'));
+        value = value
+            .saturating_mul(10)
+            .saturating_add(u64::from(*byte - b'0'));
     }
     value
 }

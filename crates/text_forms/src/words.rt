@@ -40,10 +40,8 @@ pub(crate) fn from_first_word(bytes: &[u8]) -> &[u8]
 /// The first word and what stands behind it; none where there is no word.
 /// Goes to the end of the first word, and no further.
 pub fn split_word(bytes: &[u8]) -> Option<(&[u8], &[u8])>
-    ensures {
-        MatchOption result (words_of bytes.now ≡ [])
-            (λ split. words_of bytes.now ≡ split.0.now ∷ words_of split.1.now)
-    }
+    ensures { MatchOption result (words_of bytes.now ≡ [])
+        (λ split. words_of bytes.now ≡ split.0.now ∷ words_of split.1.now) }
 {
     let text = from_first_word(bytes);
     if text.is_empty() {
@@ -55,10 +53,8 @@ pub fn split_word(bytes: &[u8]) -> Option<(&[u8], &[u8])>
 
 /// The words, where there are three.
 fn just_three(bytes: &[u8]) -> Option<(&[u8], &[u8], &[u8])>
-    ensures {
-        MatchOption result (length (words_of bytes.now) ≢ 3)
-            (λ words. words_of bytes.now ≡ words.0.now ∷ words.1.now ∷ words.2.now ∷ [])
-    }
+    ensures { MatchOption result (length (words_of bytes.now) ≢ 3)
+        (λ words. words_of bytes.now ≡ words.0.now ∷ words.1.now ∷ words.2.now ∷ []) }
 {
     let (first, behind_first) = split_word(bytes)?;
     let (second, behind_second) = split_word(behind_first)?;
@@ -71,21 +67,17 @@ fn just_three(bytes: &[u8]) -> Option<(&[u8], &[u8], &[u8])>
 
 /// The words of a line that has three; none for any other line.
 pub fn three_words(line: &[u8]) -> Option<(&[u8], &[u8], &[u8])>
-    ensures {
-        MatchOption result (length (line_words line.now) ≢ 3)
-            (λ words. line_words line.now ≡ words.0.now ∷ words.1.now ∷ words.2.now ∷ [])
-    }
+    ensures { MatchOption result (length (line_words line.now) ≢ 3)
+        (λ words. line_words line.now ≡ words.0.now ∷ words.1.now ∷ words.2.now ∷ []) }
 {
     just_three(without_return(line))
 }
 
 /// The words of a line that has four; none for any other line.
 pub fn four_words(line: &[u8]) -> Option<(&[u8], &[u8], &[u8], &[u8])>
-    ensures {
-        MatchOption result (length (line_words line.now) ≢ 4)
-            (λ words. line_words line.now
-                ≡ words.0.now ∷ words.1.now ∷ words.2.now ∷ words.3.now ∷ [])
-    }
+    ensures { MatchOption result (length (line_words line.now) ≢ 4)
+        (λ words. line_words line.now
+        ≡ words.0.now ∷ words.1.now ∷ words.2.now ∷ words.3.now ∷ []) }
 {
     let (first, behind_first) = split_word(without_return(line))?;
     let (second, third, fourth) = just_three(behind_first)?;

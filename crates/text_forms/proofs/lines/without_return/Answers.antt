@@ -1,4 +1,4 @@
-use Rattle.std.proofs.Common.{sym, refl}
+use Rattle.std.proofs.Common.{sym}
 use Rattle.text_forms.proofs.Returns.{without_return-return, without_return-other}
 use Rattle.text_forms.proofs.lines.without_return.Goals as goal
 

@@ -1,6 +1,5 @@
-use Rattle.std.proofs.Common.{◌≡◌, length, true, arith, sym, ◌∙◌}
+use Rattle.std.proofs.Common.{length, arith, ◌∙◌}
 use Rattle.std.proofs.lemmas.Bool.{lt-ltb}
-use Rattle.text_forms.specs.Words.{goes_on}
 use Rattle.text_forms.proofs.Splitting.{word-to_blank}
 use Rattle.text_forms.proofs.words.split_word.Goals as goal
 
