@@ -1,1 +1,4 @@
-
+pub mod Examples
+pub mod Finding
+pub mod Paddings
+pub mod SameNames

@@ -53,8 +53,9 @@ impl Sheet {
     pub fn number_of(&self, name: &[u8]) -> Option<u32>
         ensures { result ≡ router_named self.now.names name.now }
     {
+        let names = &self.names;
         let name = Name::from_bytes(name)?;
-        let number = self.names.get_index_of(&name)?;
+        let number = names.get_index_of(&name)?;
         Some(number as u32)
     }
 
