@@ -31,17 +31,16 @@ place_of names name = position_or_len (bytes_eq name) names
 abbrev pub link_between : List (List ℕ) → List ℕ → List ℕ → ℕ → Link
 link_between names first second cap = record { a = place_of names first; b = place_of names second; cap = cap }
 
--- The limits on capacities, routers and links, in this order.
-abbrev pub is_beyond : ℕ → List (List ℕ) → List Link → Bool
-is_beyond cap names links =
-    nat_lt 1000000000000 cap || nat_lt 1024 (length names) || nat_le 8192 (length links)
+-- The capacity is above 10^12, the routers are above 1,024, or there are 8,192 links already.
+abbrev pub is_beyond : ℕ → ℕ → ℕ → Bool
+is_beyond cap routers links = nat_lt 1000000000000 cap || nat_lt 1024 routers || nat_le 8192 links
 
 -- A link joins the routers of two names with a capacity; none without a number or beyond the limits.
 abbrev pub with_link : Draft → List ℕ → List ℕ → Option ℕ → Option Draft
 with_link draft first second None = None
 with_link draft first second (Some cap) =
     let names = with_ends draft.names first second in
-    if is_beyond cap names draft.links then None
+    if is_beyond cap (length names) (length draft.links) then None
     else Some record { names = names; links = draft.links ++ link_between names first second cap ∷ [] }
 
 -- The words `link NAME NAME NUMBER` add a link, and no other words stand.

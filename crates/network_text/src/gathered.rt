@@ -3,7 +3,8 @@
 ghost use Rattle.std.specs.Prelude.{◌≡◌, [], Some, None, OnOk, IfOk, MatchOption};
 ghost use Rattle.std.specs.Arc.{arc_value};
 ghost use Rattle.text_forms.specs.Words.{line_words};
-ghost use Rattle.network_text.specs.Texts.{Draft, draft_after, sheet_of, with_link, with_words};
+ghost use Rattle.network_text.specs.Texts.{Draft, draft_after, is_beyond as beyond, sheet_of,
+    with_link, with_words};
 ghost use Rattle.network_text.specs.Readings.{IsWithinLimits};
 
 use cut_model::{Link, Network};
@@ -73,6 +74,14 @@ fn parse_link(line: &[u8]) -> Option<LinkLine>
     Some(LinkLine { first, second, cap })
 }
 
+/// Whether a link of this capacity, among this many routers and after this many links, is more than
+/// a network may have.
+fn is_beyond(cap: u64, routers: usize, links: usize) -> bool
+    ensures { result ≡ beyond cap routers links }
+{
+    cap > MOST_CAPACITY || routers > MOST_ROUTERS || links >= MOST_LINKS
+}
+
 /// The names and links of a text so far, in order of appearance. Contracts see a `Draft`.
 #[derive(Drop)]
 pub(crate) struct Gathered {
@@ -128,10 +137,7 @@ impl Gathered {
     {
         let (a, _) = self.names.insert_full(link.first)?;
         let (b, _) = self.names.insert_full(link.second)?;
-        if link.cap > MOST_CAPACITY
-            || self.names.len() > MOST_ROUTERS
-            || self.links.len() >= MOST_LINKS
-        {
+        if is_beyond(link.cap, self.names.len(), self.links.len()) {
             return Err(Stop::Fault);
         }
         self.links.push(Link {
