@@ -26,7 +26,10 @@ join_word b (word ∷ words) = (b ∷ word) ∷ words
 -- the longest pieces without blanks, in order
 abbrev pub words_of : List ℕ → List (List ℕ)
 words_of [] = []
-words_of (b ∷ bytes) = if is_blank b then words_of bytes else if goes_on bytes then join_word b (words_of bytes) else (b ∷ []) ∷ words_of bytes
+words_of (b ∷ bytes) =
+    if is_blank b then words_of bytes
+    else if goes_on bytes then join_word b (words_of bytes)
+    else (b ∷ []) ∷ words_of bytes
 
 -- the words of a line, whose last carriage return isn't part of one
 abbrev pub line_words : List ℕ → List (List ℕ)

@@ -3,3 +3,13 @@
 //! The definitions in `specs/` are those that all crates above cite. The functions here decide them
 //! for one line at a time, and take no memory.
 #![tactic(auto)]
+
+mod lines;
+mod names;
+mod numbers;
+mod words;
+
+pub use lines::{is_bye, is_end, is_load, is_long, is_passed, without_return};
+pub use names::is_name;
+pub use numbers::parse_number;
+pub use words::{four_words, split_word, three_words};

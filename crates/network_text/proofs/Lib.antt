@@ -1,0 +1,8 @@
+pub mod Adding
+pub mod Examples
+pub mod Finding
+pub mod Limits
+pub mod Paddings
+pub mod Places
+pub mod SameNames
+pub mod Whole

@@ -1,0 +1,4 @@
+pub mod Padding
+pub mod Sheets
+pub mod Texts
+pub mod Readings

@@ -1,0 +1,23 @@
+-- A short list of bytes in 32 bytes with its length.
+use Rattle.std.specs.Prelude.{◌≡◌, ℕ, ◌≤◌, ◌-◌, List, ◌++◌, length, take, drop, replicate}
+use Rattle.std.proofs.Common.{◌∙◌, ap, sym, arith}
+use Rattle.std.proofs.lemmas.List.{take-append-drop, length-take-le}
+
+-- The bytes past the length are zeros.
+pub record IsPadded (len : ℕ) (bytes : List ℕ) : Type 0 where
+  pub short : len ≤ 32
+  pub size : length bytes ≡ 32
+  pub zeros : drop len bytes ≡ replicate (32 - len) 0
+
+-- The bytes of which these are the front, with zeros behind them.
+abbrev pub padded : List ℕ → List ℕ
+padded bytes = bytes ++ replicate (32 - length bytes) 0
+
+-- The front has the length.
+pub length-front : (len : ℕ) (bytes : List ℕ) → IsPadded len bytes → length (take len bytes) ≡ len
+length-front len bytes h = length-take-le len bytes (let short = h.short in let size = h.size in omega arith)
+
+-- The front tells all 32 bytes.
+pub padded-front : (len : ℕ) (bytes : List ℕ) → IsPadded len bytes → padded (take len bytes) ≡ bytes
+padded-front len bytes h =
+    rw (length-front len bytes h) (ap (λ rest. take len bytes ++ rest) (sym h.zeros) ∙ take-append-drop len bytes)

@@ -1,0 +1,70 @@
+//! The name of a router.
+
+ghost use Rattle.std.specs.Prelude.{◌≡◌, ◌≤◌, List, length, IfSome, IfNone, IsTrue, IsFalse};
+ghost use Rattle.text_forms.specs.Names.{is_name as name};
+
+use std::marker::Model;
+use text_forms::is_name;
+
+/// The most bytes that a name may have.
+const LONGEST_NAME: usize = 32;
+
+/// A name of 1 to 32 bytes, each an ASCII letter, a digit, `.`, `_` or `-`. Contracts see its bytes.
+#[derive(Clone, Copy, PartialEq, Eq, Hash)]
+pub struct Name {
+    bytes: [u8; LONGEST_NAME],
+    len: u8,
+}
+
+impl Model for Name {
+    ghost use Rattle.std.specs.Prelude.{ℕ, List, length, take};
+    ghost use Rattle.network_text.specs.Padding.{IsPadded, padded, padded-front, length-front};
+
+    ghost Value = { List ℕ };
+
+    ghost view = { λ name. take name.len name.bytes };
+
+    ghost invariant = { λ name. IsPadded name.len name.bytes };
+
+    ghost inverse = { λ bytes. record { bytes = padded bytes; len = length bytes } };
+
+    ghost inverse_ok = { λ name h. λ i. record {
+        bytes = padded-front name.len name.bytes h i;
+        len = length-front name.len name.bytes h i } };
+}
+
+impl Name {
+    /// The name of these bytes; none exactly where they are no name.
+    pub fn from_bytes(bytes: &[u8]) -> Option<Name>
+        ensures none { IfNone result (IsFalse (name bytes.now)) }
+        ensures some { IfSome result (λ made. IsTrue (name bytes.now) × (made ≡ bytes.now)) }
+    {
+        if is_name(bytes) {
+            Some(Name::padded(bytes))
+        } else {
+            None
+        }
+    }
+
+    /// The bytes of the name, at most 32.
+    #[inline]
+    pub fn as_bytes(&self) -> &[u8]
+        ensures value { result.now ≡ self.now }
+        ensures short { length result.now ≤ 32 }
+    {
+        &self.bytes[..self.len as usize]
+    }
+
+    /// These bytes with zeros behind them.
+    fn padded(bytes: &[u8]) -> Name
+        requires { length bytes.now ≤ 32 }
+        ensures { result ≡ bytes.now }
+    {
+        let mut padded = [0; LONGEST_NAME];
+        padded[..bytes.len()].copy_from_slice(bytes);
+        Name {
+            bytes: padded,
+            len: bytes.len() as u8,
+        }
+    }
+}

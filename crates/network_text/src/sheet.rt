@@ -1,0 +1,73 @@
+//! A network whose routers have names.
+
+ghost use Rattle.std.specs.Prelude.{◌≡◌, ◌<◌, ◌≤◌, length, Some, IsSome, slice_get};
+ghost use Rattle.std.specs.Arc.{arc_value};
+ghost use Rattle.indexmap.specs.IndexSet.{IsUnique};
+ghost use Rattle.network_text.specs.Sheets.{IsSheet, number_of as router_named};
+
+use cut_model::Network;
+use indexmap::IndexSet;
+use std::marker::Model;
+use std::sync::Arc;
+
+use crate::name::Name;
+
+/// A network and the names of its routers. Contracts see a `SheetView`.
+#[derive(Drop)]
+pub struct Sheet {
+    net: Arc<Network>,
+    names: IndexSet<Name>,
+}
+
+impl Model for Sheet {
+    ghost use Rattle.std.specs.Arc.{arc_value};
+    ghost use Rattle.network_text.specs.Sheets.{SheetView, IsSheet};
+
+    ghost Value = { SheetView };
+
+    ghost view = { λ sheet. record { names = sheet.names.keys; net = arc_value sheet.net } };
+
+    ghost invariant = { λ sheet. IsSheet sheet.names.keys (arc_value sheet.net) };
+}
+
+impl Sheet {
+    /// The sheet of a network and the names of its routers.
+    pub(crate) fn make(net: Arc<Network>, names: IndexSet<Name>) -> Sheet
+        requires { IsSheet names.keys (arc_value net) }
+        ensures { result ≡ record { names = names.keys; net = arc_value net } }
+    {
+        Sheet { net, names }
+    }
+
+    /// The network, to be shared by those that need it longer than the sheet.
+    #[inline]
+    pub fn net(&self) -> &Arc<Network>
+        ensures value { arc_value result.now ≡ self.now.net }
+        ensures sheet { IsSheet self.now.names self.now.net }
+    {
+        &self.net
+    }
+
+    /// The number of the router with this name, below the network's number of routers; none exactly
+    /// where no router has the name. One look-up.
+    pub fn number_of(&self, name: &[u8]) -> Option<u32>
+        ensures { result ≡ router_named self.now.names name.now }
+    {
+        let names = &self.names;
+        let name = Name::from_bytes(name)?;
+        let number = names.get_index_of(&name)?;
+        Some(number as u32)
+    }
+
+    /// The name of a router, 1 to 32 bytes.
+    #[inline]
+    pub fn name_of(&self, router: u32) -> &[u8]
+        requires { router < length self.now.names }
+        ensures value { slice_get self.now.names router ≡ Some result.now }
+        ensures short { length result.now ≤ 32 }
+        ensures sheet { IsSheet self.now.names self.now.net }
+    {
+        let name = &self.names.as_slice()[router as usize];
+        name.as_bytes()
+    }
+}
