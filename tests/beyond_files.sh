@@ -3,13 +3,34 @@
 
 try a_folder_as_standard_input_is_a_read_fault 2 "$room/nothing" tests plan
 
+timeout -k 5 "$seconds" "$program" plan >"$room/stdout" 2>"$room/stderr" <&-
+judge a_closed_input_is_a_read_fault "$?" 2 "$room/nothing"
+
+# faulty_output NAME STATUS: of a run whose output cannot be looked at.
+faulty_output() {
+    : >"$room/stdout"
+    judge "$1" "$2" 3 "$room/nothing"
+}
+
 timeout -k 5 "$seconds" "$program" plan <"$first/stdin" >/dev/full 2>"$room/stderr"
-status=$?
-: >"$room/stdout"
-judge a_full_device_is_a_write_fault "$status" 3 "$room/nothing"
+faulty_output a_full_device_is_a_write_fault "$?"
+
+timeout -k 5 "$seconds" "$program" plan <"$first/stdin" 2>"$room/stderr" >&-
+faulty_output a_closed_output_is_a_write_fault "$?"
+
+# (far more replies than a pipe holds)
+yes X | head -n 100000 >"$room/stdin"
+{
+    timeout -k 5 "$seconds" "$program" plan <"$room/stdin" 2>"$room/stderr"
+    printf '%s' "$?" >"$room/status"
+} | true
+faulty_output a_reader_that_goes_away_is_a_write_fault "$(cat "$room/status")"
 
 try a_word_with_a_line_feed 1 "$room/nothing" "$first/stdin" "plan
 "
+
+try the_first_example 0 "$first/stdout" examples/first.txt plan
+try the_backbone_example 0 examples/backbone.replies examples/backbone.txt plan
 
 # The first path, with a line of a million bytes before its end and another as the last line.
 {
