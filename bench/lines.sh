@@ -3,7 +3,7 @@
 #
 # Measures how fast the built program passes lines over and answers them, each beside a yardstick in
 # the same run, and the most memory that it holds. All inputs are made on the fly in a temporary
-# folder (about 350 MB), and all output goes to /dev/null. It takes some minutes.
+# folder (about 100 MB), and all output goes to /dev/null. It takes some minutes.
 #
 # Needs a C compiler and the C library's headers beside what the program needs: the Debian packages
 # gcc and libc6-dev (others: coreutils, findutils, gawk or mawk).
@@ -91,7 +91,7 @@ head -c 1000000000 /dev/zero | tr '\0' X | measure_peak 'a line of 1 GB without 
 {
     echo LOAD
     yes 'link a b 5'
-} 2>/dev/null | measure_peak 'a text without an end' endless 5
+} 2>/dev/null | head -c 1200000000 | measure_peak 'a text without an end' endless 5
 
 awk -v loads=257 -f bench/networks.awk >"$room/networks"
 measure_peak '257 networks of the largest size' networks.peak 0 <"$room/networks"
