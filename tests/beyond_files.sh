@@ -67,15 +67,13 @@ converse
 judge a_reply_comes_before_the_next_request_is_sent "$?" 0 "$room/wanted"
 
 # The same bytes in pieces, as a slow writer sends them.
-{
-    for piece in 'LO' 'AD
+for piece in 'LO' 'AD
 li' 'nk a b 5
 EN' 'D
 C' 'UT a b' '
 BYE
 '; do
-        printf '%s' "$piece"
-        sleep 0.05
-    done
-} | timeout -k 5 "$seconds" "$program" plan >"$room/stdout" 2>"$room/stderr"
+    printf '%s' "$piece"
+    sleep 0.05
+done | timeout -k 5 "$seconds" "$program" plan >"$room/stdout" 2>"$room/stderr"
 judge input_in_pieces "$?" 0 "$first/stdout"
