@@ -1,0 +1,79 @@
+# Cases that files cannot show; read by tests/run.
+# shellcheck shell=sh disable=SC2154
+
+try a_folder_as_standard_input_is_a_read_fault 2 "$room/nothing" tests plan
+
+timeout -k 5 "$seconds" "$program" plan >"$room/stdout" 2>"$room/stderr" <&-
+judge a_closed_input_is_a_read_fault "$?" 2 "$room/nothing"
+
+# faulty_output NAME STATUS: of a run whose output cannot be looked at.
+faulty_output() {
+    : >"$room/stdout"
+    judge "$1" "$2" 3 "$room/nothing"
+}
+
+timeout -k 5 "$seconds" "$program" plan <"$first/stdin" >/dev/full 2>"$room/stderr"
+faulty_output a_full_device_is_a_write_fault "$?"
+
+timeout -k 5 "$seconds" "$program" plan <"$first/stdin" 2>"$room/stderr" >&-
+faulty_output a_closed_output_is_a_write_fault "$?"
+
+# (far more replies than a pipe holds)
+yes X | head -n 100000 >"$room/stdin"
+{
+    timeout -k 5 "$seconds" "$program" plan <"$room/stdin" 2>"$room/stderr"
+    printf '%s' "$?" >"$room/status"
+} | true
+faulty_output a_reader_that_goes_away_is_a_write_fault "$(cat "$room/status")"
+
+try a_word_with_a_line_feed 1 "$room/nothing" "$first/stdin" "plan
+"
+
+try the_first_example 0 "$first/stdout" examples/first.txt plan
+try the_backbone_example 0 examples/backbone.replies examples/backbone.txt plan
+
+# The first path, with a line of a million bytes before its end and another as the last line.
+{
+    sed '/^BYE$/d' "$first/stdin"
+    head -c 1000000 /dev/zero | tr '\0' X
+    printf '\nCUT a b\n'
+    head -c 1000000 /dev/zero | tr '\0' '#'
+} >"$room/stdin"
+{
+    sed '/BYE$/d' "$first/stdout"
+    printf '%s\n' '@1 NO 9' '@1 CUT 5 side a' '@1 NO 9'
+} >"$room/wanted"
+try lines_of_a_million_bytes 0 "$room/wanted" "$room/stdin" plan
+
+# Each request is sent when the reply to the one before has come.
+converse() {
+    mkfifo "$room/to" "$room/from"
+    timeout -k 5 "$seconds" "$program" plan <"$room/to" >"$room/from" 2>"$room/stderr" &
+    exec 3>"$room/to" 4<"$room/from"
+    trap '' PIPE
+    for request in 'LOAD
+link a b 5
+END' 'CUT b a' 'X' 'BYE'; do
+        printf '%s\n' "$request" >&3 2>"$room/broken"
+        IFS= read -r reply <&4
+        printf '%s\n' "$reply"
+    done >"$room/stdout"
+    trap - PIPE
+    exec 3>&- 4<&-
+    wait "$!"
+}
+printf '%s\n' '@1 LOADED routers 2 links 1' '@1 CUT 5 side b' '@1 NO 9' '@1 BYE' >"$room/wanted"
+converse
+judge a_reply_comes_before_the_next_request_is_sent "$?" 0 "$room/wanted"
+
+# The same bytes in pieces, as a slow writer sends them.
+for piece in 'LO' 'AD
+li' 'nk a b 5
+EN' 'D
+C' 'UT a b' '
+BYE
+'; do
+    printf '%s' "$piece"
+    sleep 0.05
+done | timeout -k 5 "$seconds" "$program" plan >"$room/stdout" 2>"$room/stderr"
+judge input_in_pieces "$?" 0 "$first/stdout"
