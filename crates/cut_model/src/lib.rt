@@ -1,4 +1,3 @@
-<<<<<<< HEAD
 //! Networks within their limits, sets of routers, and what cuts and flows are.
 //!
 //! The definitions in `specs/` are those that all crates above cite. A `Network` in hand is within
@@ -18,11 +17,3 @@ pub use network::{Link, NetFault, Network};
 pub use no_memory::NoMemory;
 pub use side::Side;
 pub use steps::Steps;
-=======
-//! Stand-in with the one error type that this clone's crates need.
-#![tactic(auto)]
-
-mod no_memory;
-
-pub use no_memory::NoMemory;
->>>>>>> b3ab35532a7c0a4847b1a9a3c99db926869b04eb
