@@ -1,0 +1,214 @@
+-- What a push and a load make of the stored lists.
+use Rattle.std.proofs.Common.{◌≡◌, ◌≢◌, ℕ, ◌+◌, ◌-◌, ◌*◌, ◌/◌, ◌%◌, ◌<◌, ◌≤◌, List, length, get_or, set, map, replicate, refl, sym, ap, ◌∙◌, subst, inl, inr, arith}
+use Rattle.std.specs.Prelude.{ℤ, pos, neg_ℤ, ◌+ℤ◌, ◌-ℤ◌}
+use Rattle.std.specs.List.{range_with_len, filter}
+use Rattle.std.specs.Int.RustNames.{bit_xor}
+use Rattle.std.specs.Int.Bits.{xor_zero_r}
+use Rattle.std.proofs.lemmas.Bool.{cases_eq}
+use Rattle.std.proofs.lemmas.Int.{ints}
+use Rattle.std.proofs.lemmas.List.{get_or-set_same, get_or-set_other, get_or-replicate, length-replicate, length-set, ext_get_or, get_or_past}
+use Rattle.std.proofs.lemmas.Nat.{xor_block}
+use mathlib.Core.Path.{fun_ext}
+use Rattle.cut_model.specs.declared.network.Link.{Link}
+use Rattle.cut_model.specs.Net.{Net, IsInLimits}
+use Rattle.residual_graph.specs.Arcs.{no_link, tail_in, head_in, link_of, arcs_from}
+use Rattle.residual_graph.specs.Fills.{HasCaps, HasHeads, after}
+use Rattle.residual_graph.specs.Indexed.{IsGroup, IsIndexed}
+use Rattle.residual_graph.specs.Storage.{cap_at, link_at, links_at, flow_at, flows_at, view_of, IsStored}
+use Rattle.residual_graph.specs.View.{ResidualView, pushed}
+use Rattle.residual_graph.proofs.Views.{length-links_at, get_or-links_at, length-flows_at, get_or-flows_at}
+
+-- ---- twins
+
+pub twin_there : (i : ℕ) → bit_xor (2 * i) 1 ≡ 2 * i + 1
+twin_there i =
+    let arc : 2 * i ≡ i * 2 ^ 1 + 0 = omega arith in
+    ap (λ a. bit_xor a 1) arc ∙ xor_block 1 i 0 0 1 (omega arith) (omega arith)
+    ∙ ap (λ n. n * 2 ^ 1 + 1) (xor_zero_r i) ∙ (omega arith)
+
+pub twin_back : (i : ℕ) → bit_xor (2 * i + 1) 1 ≡ 2 * i
+twin_back i =
+    let arc : 2 * i + 1 ≡ i * 2 ^ 1 + 1 = omega arith in
+    ap (λ a. bit_xor a 1) arc ∙ xor_block 1 i 0 1 1 (omega arith) (omega arith)
+    ∙ ap (λ n. n * 2 ^ 1 + 0) (xor_zero_r i) ∙ (omega arith)
+
+-- ---- what is left moves between the two arcs of a link
+
+pub record IsMoved (left left' : List ℕ) (j there back : ℕ) : Type 0 where
+  pub size : length left' ≡ length left
+  pub there_is : get_or left' (2 * j) 0 ≡ there
+  pub back_is : get_or left' (2 * j + 1) 0 ≡ back
+  pub both : there + back ≡ get_or left (2 * j) 0 + get_or left (2 * j + 1) 0
+  pub others : (k : ℕ) → k ≢ 2 * j → k ≢ 2 * j + 1 → get_or left' k 0 ≡ get_or left k 0
+
+-- each link's two arcs together have as much left as before
+same_pairs : (left left' : List ℕ) (j there back : ℕ) → IsMoved left left' j there back → (i : ℕ)
+    → get_or left' (2 * i) 0 + get_or left' (2 * i + 1) 0 ≡ get_or left (2 * i) 0 + get_or left (2 * i + 1) 0
+same_pairs left left' j there back moved i = elim (cases_eq i j) [
+  | inl e ↦
+      subst
+      (λ k. get_or left' (2 * k) 0 + get_or left' (2 * k + 1) 0 ≡ get_or left (2 * k) 0 + get_or left (2 * k + 1) 0) (sym e)
+      (omega (arith, moved.there_is, moved.back_is, moved.both))
+  | inr ne ↦
+      omega (
+        arith,
+        moved.others (2 * i) (λ e. ne (omega arith)) (λ e. omega arith),
+        moved.others (2 * i + 1) (λ e. omega arith) (λ e. ne (omega arith)),
+      )
+]
+
+same_caps : (left left' : List ℕ) (j there back : ℕ) → IsMoved left left' j there back → (i : ℕ) → cap_at left' i ≡ cap_at left i
+same_caps left left' j there back moved i = ap (λ n. n / 2) (same_pairs left left' j there back moved i)
+
+pub same_links : (head left left' : List ℕ) (links j there back : ℕ) → IsMoved left left' j there back
+    → links_at head left' links ≡ links_at head left links
+unfolding links_at
+same_links head left left' links j there back moved =
+    let each : (i : ℕ) → link_at head left' i ≡ link_at head left i = λ i.
+    ap (λ c. record { a = get_or head (2 * i + 1) 0; b = get_or head (2 * i) 0; cap = c }) (same_caps left left' j there back moved i) in
+    ap (λ (f : ℕ → Link). map f (range_with_len 0 links)) (fun_ext each)
+
+pub moved_stored : (room_routers room_links routers links : ℕ) (first order heads head left left' : List ℕ) (j there back : ℕ)
+    → IsMoved left left' j there back → IsStored room_routers room_links routers links first order heads head left
+    → IsStored room_routers room_links routers links first order heads head left'
+moved_stored room_routers room_links routers links first order heads head left left' j there back moved stored =
+    let same = sym (same_links head left left' links j there back moved) in record {
+      few_routers = stored.few_routers;
+      few_links = stored.few_links;
+      routers_fit = stored.routers_fit;
+      links_fit = stored.links_fit;
+      first_room = stored.first_room;
+      order_room = stored.order_room;
+      heads_room = stored.heads_room;
+      head_room = stored.head_room;
+      left_room = moved.size ∙ stored.left_room;
+      limits = subst (IsInLimits routers) same stored.limits;
+      pairs = λ i low.
+          omega (arith, same_pairs left left' j there back moved i, same_caps left left' j there back moved i, stored.pairs i low);
+      indexed = subst (λ (ls : List Link). IsIndexed (record { routers = routers; links = ls }) first order heads) same stored.indexed;
+    }
+
+moved_flows : (left left' : List ℕ) (links j there back : ℕ) → IsMoved left left' j there back → j < links
+    → flows_at left' links ≡ set (flows_at left links) j (pos (cap_at left j) -ℤ pos there)
+moved_flows left left' links j there back moved low =
+    let new : ℤ = pos (cap_at left j) -ℤ pos there in
+    ext_get_or (pos 0) (flows_at left' links) (set (flows_at left links) j (pos (cap_at left j) -ℤ pos there))
+    (length-flows_at left' links ∙ sym (length-flows_at left links)
+    ∙ sym (length-set (flows_at left links) j (pos (cap_at left j) -ℤ pos there))) (λ i within.
+    let inside : i < links = omega (arith, length-flows_at left' links) in
+    get_or-flows_at left' links i inside ∙ elim (cases_eq i j) [
+      | inl e ↦
+          subst (λ k. flow_at left' k ≡ get_or (set (flows_at left links) j (pos (cap_at left j) -ℤ pos there)) k (pos 0)) (sym e)
+          ((λ i. pos (same_caps left left' j there back moved j i) -ℤ pos (moved.there_is i))
+          ∙ sym (get_or-set_same (flows_at left links) j (pos (cap_at left j) -ℤ pos there) (pos 0)
+          (omega (arith, length-flows_at left links))))
+      | inr ne ↦
+          let stays = moved.others (2 * i) (λ e. ne (omega arith)) (λ e. omega arith) in
+          (λ k. pos (same_caps left left' j there back moved i k) -ℤ pos (stays k))
+          ∙ sym (get_or-flows_at left links i inside)
+          ∙ sym (get_or-set_other (flows_at left links) j i (pos (cap_at left j) -ℤ pos there) (pos 0) ne)
+    ])
+
+-- the flow of a link after a move
+pub moved_view : (room_routers room_links routers links : ℕ) (head left left' : List ℕ) (j there back : ℕ)
+    → IsMoved left left' j there back → j < links
+    → view_of room_routers room_links routers links head left'
+    ≡ record (view_of room_routers room_links routers links head left) {
+      flow = set (flows_at left links) j (pos (cap_at left j) -ℤ pos there);
+    }
+unfolding view_of
+moved_view room_routers room_links routers links head left left' j there back moved low =
+    let same = same_links head left left' links j there back moved in
+    let flows = moved_flows left left' links j there back moved low in λ i.
+    record {
+      room_routers = room_routers;
+      room_links = room_links;
+      net = record { routers = routers; links = same i };
+      flow = flows i;
+    }
+
+-- ---- a push
+
+-- along the arc there, and along the arc back
+pub after_there : (left : List ℕ) (j amount : ℕ) → 2 * j + 1 < length left → amount ≤ get_or left (2 * j) 0
+    → IsMoved left (after left (2 * j) (2 * j + 1) amount) j (get_or left (2 * j) 0 - amount) (get_or left (2 * j + 1) 0 + amount)
+after_there left j amount within enough =
+    let size = length-set left (2 * j) (get_or left (2 * j) 0 - amount) in record {
+      size = length-set (set left (2 * j) (get_or left (2 * j) 0 - amount)) (2 * j + 1) (get_or left (2 * j + 1) 0 + amount) ∙ size;
+      there_is =
+          get_or-set_other (set left (2 * j) (get_or left (2 * j) 0 - amount)) (2 * j + 1) (2 * j)
+          (get_or left (2 * j + 1) 0 + amount) 0 (λ e. omega arith)
+          ∙ get_or-set_same left (2 * j) (get_or left (2 * j) 0 - amount) 0 (omega arith);
+      back_is =
+          get_or-set_same (set left (2 * j) (get_or left (2 * j) 0 - amount)) (2 * j + 1) (get_or left (2 * j + 1) 0 + amount) 0
+          (omega (arith, size));
+      both = omega arith;
+      others = λ k not_there not_back.
+          get_or-set_other (set left (2 * j) (get_or left (2 * j) 0 - amount)) (2 * j + 1) k
+          (get_or left (2 * j + 1) 0 + amount) 0 not_back
+          ∙ get_or-set_other left (2 * j) k (get_or left (2 * j) 0 - amount) 0 not_there;
+    }
+
+pub after_back : (left : List ℕ) (j amount : ℕ) → 2 * j + 1 < length left → amount ≤ get_or left (2 * j + 1) 0
+    → IsMoved left (after left (2 * j + 1) (2 * j) amount) j (get_or left (2 * j) 0 + amount) (get_or left (2 * j + 1) 0 - amount)
+after_back left j amount within enough =
+    let size = length-set left (2 * j + 1) (get_or left (2 * j + 1) 0 - amount) in record {
+      size = length-set (set left (2 * j + 1) (get_or left (2 * j + 1) 0 - amount)) (2 * j) (get_or left (2 * j) 0 + amount) ∙ size;
+      there_is =
+          get_or-set_same (set left (2 * j + 1) (get_or left (2 * j + 1) 0 - amount)) (2 * j) (get_or left (2 * j) 0 + amount) 0
+          (omega (arith, size));
+      back_is =
+          get_or-set_other (set left (2 * j + 1) (get_or left (2 * j + 1) 0 - amount)) (2 * j) (2 * j + 1)
+          (get_or left (2 * j) 0 + amount) 0 (λ e. omega arith)
+          ∙ get_or-set_same left (2 * j + 1) (get_or left (2 * j + 1) 0 - amount) 0 (omega arith);
+      both = omega arith;
+      others = λ k not_there not_back.
+          get_or-set_other (set left (2 * j + 1) (get_or left (2 * j + 1) 0 - amount)) (2 * j) k
+          (get_or left (2 * j) 0 + amount) 0 not_there
+          ∙ get_or-set_other left (2 * j + 1) k (get_or left (2 * j + 1) 0 - amount) 0 not_back;
+    }
+
+-- ---- a load
+
+pub loaded_links : (links : List Link) (head left : List ℕ) → HasHeads links head → HasCaps links left
+    → links_at head left (length links) ≡ links
+loaded_links links head left heads caps =
+    ext_get_or no_link (links_at head left (length links)) links (length-links_at head left (length links)) (λ i within.
+    let low : i < length links = omega (arith, length-links_at head left (length links)) in
+    let whole : cap_at left i ≡ (get_or links i no_link).cap = omega (arith, (caps i low).there, (caps i low).back) in
+    get_or-links_at head left (length links) i low
+    ∙ (λ k. record { a = (heads i low).back k; b = (heads i low).there k; cap = whole k }))
+
+pub loaded_flows : (links : List Link) (left : List ℕ) → HasCaps links left
+    → flows_at left (length links) ≡ replicate (length links) (pos 0)
+loaded_flows links left caps =
+    ext_get_or (pos 0) (flows_at left (length links)) (replicate (length links) (pos 0))
+    (length-flows_at left (length links) ∙ sym (length-replicate (length links) (pos 0))) (λ i within.
+    let low : i < length links = omega (arith, length-flows_at left (length links)) in
+    let none : flow_at left i ≡ pos 0 = omega (arith, ints, (caps i low).there, (caps i low).back) in
+    get_or-flows_at left (length links) i low ∙ none ∙ sym (get_or-replicate (length links) i (pos 0) (pos 0) low))
+
+pub loaded_pairs : (links : List Link) (left : List ℕ) → HasCaps links left → (i : ℕ) → i < length links
+    → get_or left (2 * i) 0 + get_or left (2 * i + 1) 0 ≡ 2 * cap_at left i
+loaded_pairs links left caps i low = omega (arith, (caps i low).there, (caps i low).back)
+
+-- the ends of the links don't depend on what is left
+same_tails : (head left left' : List ℕ) (links : ℕ) → tail_in (links_at head left links) ≡ tail_in (links_at head left' links)
+unfolding tail_in
+same_tails head left left' links = fun_ext (λ arc. ?)
+
+-- an index of one network is one of another with the same ends
+same_index : (net other : Net) (first order heads : List ℕ) → tail_in net.links ≡ tail_in other.links
+    → head_in net.links ≡ head_in other.links → length net.links ≡ length other.links → (router : ℕ)
+    → IsGroup net first order heads router → IsGroup other first order heads router
+unfolding arcs_from
+same_index net other first order heads tails goes number router group = record {
+  rises = group.rises;
+  ends = omega (arith, group.ends, number);
+  arcs_at =
+      group.arcs_at
+      ∙ (λ i. filter (λ arc. tails i arc == router) (range_with_len 0 (2 * number i)));
+  heads_at =
+      group.heads_at
+      ∙ (λ i. map (goes i) (filter (λ arc. tails i arc == router) (range_with_len 0 (2 * number i))));
+}
