@@ -1,12 +1,12 @@
 -- What a push and a load make of the stored lists.
-use Rattle.std.proofs.Common.{◌≡◌, ◌≢◌, ℕ, ◌+◌, ◌-◌, ◌*◌, ◌/◌, ◌%◌, ◌<◌, ◌≤◌, List, length, get_or, set, map, replicate, refl, sym, ap, ◌∙◌, subst, inl, inr, arith}
-use Rattle.std.specs.Prelude.{ℤ, pos, neg_ℤ, ◌+ℤ◌, ◌-ℤ◌}
+use Rattle.std.proofs.Common.{◌≡◌, ◌≢◌, ℕ, ◌+◌, ◌-◌, ◌*◌, ◌/◌, ◌%◌, ◌^◌, ◌<◌, ◌≤◌, List, length, get_or, set, map, replicate, cond, ◌++◌, take, refl, sym, ap, ◌∙◌, subst, inl, inr, arith}
+use Rattle.std.specs.Prelude.{ℤ, pos, neg_ℤ, ◌+ℤ◌, ◌-ℤ◌, ◌≤ℤ◌, ◌==◌}
 use Rattle.std.specs.List.{range_with_len, filter}
 use Rattle.std.specs.Int.RustNames.{bit_xor}
 use Rattle.std.specs.Int.Bits.{xor_zero_r}
-use Rattle.std.proofs.lemmas.Bool.{cases_eq}
+use Rattle.std.proofs.lemmas.Bool.{cases_eq, cases_lt}
 use Rattle.std.proofs.lemmas.Int.{ints}
-use Rattle.std.proofs.lemmas.List.{get_or-set_same, get_or-set_other, get_or-replicate, length-replicate, length-set, ext_get_or, get_or_past}
+use Rattle.std.proofs.lemmas.List.{get_or-set_same, get_or-set_other, get_or-replicate, length-replicate, length-set, ext_get_or, get_or_past, take-append-le, take_all}
 use Rattle.std.proofs.lemmas.Nat.{xor_block}
 use mathlib.Core.Path.{fun_ext}
 use Rattle.cut_model.specs.declared.network.Link.{Link}
@@ -16,7 +16,7 @@ use Rattle.residual_graph.specs.Fills.{HasCaps, HasHeads, after}
 use Rattle.residual_graph.specs.Indexed.{IsGroup, IsIndexed}
 use Rattle.residual_graph.specs.Storage.{cap_at, link_at, links_at, flow_at, flows_at, view_of, IsStored}
 use Rattle.residual_graph.specs.View.{ResidualView, pushed}
-use Rattle.residual_graph.proofs.Views.{length-links_at, get_or-links_at, length-flows_at, get_or-flows_at}
+use Rattle.residual_graph.proofs.Views.{there_or_back, length-links_at, get_or-links_at, length-flows_at, get_or-flows_at}
 
 -- ---- twins
 
@@ -168,6 +168,112 @@ after_back left j amount within enough =
           ∙ get_or-set_other left (2 * j + 1) k (get_or left (2 * j + 1) 0 - amount) 0 not_back;
     }
 
+-- What a push of an amount along an arc needs, and what it makes.
+pub record IsPush (room_routers room_links routers links : ℕ) (first order heads head left : List ℕ) (arc twin amount : ℕ)
+    : Type 0 where
+  pub apart : arc ≢ twin
+  pub inside : twin < length left
+  pub room : get_or left twin 0 + amount < 2 ^ 64
+  pub stored : IsStored room_routers room_links routers links first order heads head (after left arc twin amount)
+  pub view :
+    view_of room_routers room_links routers links head (after left arc twin amount)
+    ≡ record (view_of room_routers room_links routers links head left) {
+        flow = pushed (flows_at left links) arc amount;
+      }
+
+-- the capacity of a link is within the limit
+cap_small : (routers : ℕ) (head left : List ℕ) (links i : ℕ) → IsInLimits routers (links_at head left links) → i < links
+    → cap_at left i ≤ 1000000000000
+cap_small routers head left links i limits low =
+    let within = limits.within i no_link (omega (arith, length-links_at head left links)) in
+    omega (arith, within.cap, ap (λ (l : Link). l.cap) (get_or-links_at head left links i low))
+
+pushed-there : (left : List ℕ) (links j amount : ℕ) → j < links → amount ≤ get_or left (2 * j) 0
+    → set (flows_at left links) j (pos (cap_at left j) -ℤ pos (get_or left (2 * j) 0 - amount))
+    ≡ pushed (flows_at left links) (2 * j) amount
+unfolding pushed
+pushed-there left links j amount low enough =
+    let even : 2 * j % 2 ≡ 0 = omega arith in
+    let half : 2 * j / 2 ≡ j = omega arith in
+    rw (even, half, get_or-flows_at left links j low)
+    (ap (set (flows_at left links) j) (more_there (cap_at left j) (get_or left (2 * j) 0) amount enough))
+  where
+    more_there : (c x amount : ℕ) → amount ≤ x → (pos c -ℤ pos (x - amount)) ≡ ((pos c -ℤ pos x) +ℤ pos amount)
+    more_there c x amount enough = omega (arith, ints)
+
+pushed-back : (left : List ℕ) (links j amount : ℕ) → j < links
+    → set (flows_at left links) j (pos (cap_at left j) -ℤ pos (get_or left (2 * j) 0 + amount))
+    ≡ pushed (flows_at left links) (2 * j + 1) amount
+unfolding pushed
+pushed-back left links j amount low =
+    let odd : (2 * j + 1) % 2 ≡ 1 = omega arith in
+    let half : (2 * j + 1) / 2 ≡ j = omega arith in
+    rw (odd, half, get_or-flows_at left links j low)
+    (ap (set (flows_at left links) j) (more_back (cap_at left j) (get_or left (2 * j) 0) amount))
+  where
+    more_back : (c x amount : ℕ) → (pos c -ℤ pos (x + amount)) ≡ ((pos c -ℤ pos x) +ℤ neg_ℤ (pos amount))
+    more_back c x amount = omega (arith, ints)
+
+push_there : (room_routers room_links routers links : ℕ) (first order heads head left : List ℕ) (j amount : ℕ)
+    → IsStored room_routers room_links routers links first order heads head left → j < links → amount ≤ get_or left (2 * j) 0
+    → IsPush room_routers room_links routers links first order heads head left (2 * j) (2 * j + 1) amount
+push_there room_routers room_links routers links first order heads head left j amount stored low enough =
+    let within : 2 * j + 1 < length left = omega (arith, stored.left_room, stored.links_fit) in
+    let moved = after_there left j amount within enough in
+    let cap = cap_small routers head left links j stored.limits low in record {
+      apart = λ e. omega arith;
+      inside = within;
+      room = omega (arith, stored.pairs j low, cap);
+      stored = moved_stored room_routers room_links routers links first order heads head left _ j _ _ moved stored;
+      view =
+          moved_view room_routers room_links routers links head left _ j _ _ moved low
+          ∙ ap (λ flow. record (view_of room_routers room_links routers links head left) { flow = flow })
+          (pushed-there left links j amount low enough);
+    }
+
+push_back : (room_routers room_links routers links : ℕ) (first order heads head left : List ℕ) (j amount : ℕ)
+    → IsStored room_routers room_links routers links first order heads head left → j < links
+    → amount ≤ get_or left (2 * j + 1) 0
+    → IsPush room_routers room_links routers links first order heads head left (2 * j + 1) (2 * j) amount
+push_back room_routers room_links routers links first order heads head left j amount stored low enough =
+    let within : 2 * j + 1 < length left = omega (arith, stored.left_room, stored.links_fit) in
+    let moved = after_back left j amount within enough in
+    let cap = cap_small routers head left links j stored.limits low in record {
+      apart = λ e. omega arith;
+      inside = omega arith;
+      room = omega (arith, stored.pairs j low, cap);
+      stored = moved_stored room_routers room_links routers links first order heads head left _ j _ _ moved stored;
+      view =
+          moved_view room_routers room_links routers links head left _ j _ _ moved low
+          ∙ ap (λ flow. record (view_of room_routers room_links routers links head left) { flow = flow })
+          (pushed-back left links j amount low);
+    }
+
+pub push_is : (room_routers room_links routers links : ℕ) (first order heads head left : List ℕ) (arc amount : ℕ)
+    → IsStored room_routers room_links routers links first order heads head left → arc < 2 * links
+    → amount ≤ get_or left arc 0
+    → IsPush room_routers room_links routers links first order heads head left arc (bit_xor arc 1) amount
+push_is room_routers room_links routers links first order heads head left arc amount stored low enough =
+    let j : ℕ = arc / 2 in
+    elim (there_or_back arc) [
+      | inl there ↦
+        subst
+        (λ k. IsPush room_routers room_links routers links first order heads head left k (bit_xor k 1) amount) (sym there)
+        (subst
+        (λ t. IsPush room_routers room_links routers links first order heads head left (2 * (arc / 2)) t amount)
+        (sym (twin_there (arc / 2)))
+        (push_there room_routers room_links routers links first order heads head left (arc / 2) amount stored (omega arith)
+        (subst (λ k. amount ≤ get_or left k 0) there enough)))
+      | inr back ↦
+        subst
+        (λ k. IsPush room_routers room_links routers links first order heads head left k (bit_xor k 1) amount) (sym back)
+        (subst
+        (λ t. IsPush room_routers room_links routers links first order heads head left (2 * (arc / 2) + 1) t amount)
+        (sym (twin_back (arc / 2)))
+        (push_back room_routers room_links routers links first order heads head left (arc / 2) amount stored (omega arith)
+        (subst (λ k. amount ≤ get_or left k 0) back enough)))
+    ]
+
 -- ---- a load
 
 pub loaded_links : (links : List Link) (head left : List ℕ) → HasHeads links head → HasCaps links left
@@ -192,10 +298,28 @@ pub loaded_pairs : (links : List Link) (left : List ℕ) → HasCaps links left 
     → get_or left (2 * i) 0 + get_or left (2 * i + 1) 0 ≡ 2 * cap_at left i
 loaded_pairs links left caps i low = omega (arith, (caps i low).there, (caps i low).back)
 
--- the ends of the links don't depend on what is left
+-- a link's ends don't depend on what is left, also where there is no such link
+same_link : (head left left' : List ℕ) (links i : ℕ)
+    → ((get_or (links_at head left links) i no_link).a ≡ (get_or (links_at head left' links) i no_link).a)
+    × ((get_or (links_at head left links) i no_link).b ≡ (get_or (links_at head left' links) i no_link).b)
+same_link head left left' links i = elim (cases_lt i links) [
+  | inl low ↦ rw (get_or-links_at head left links i low, get_or-links_at head left' links i low) (refl, refl)
+  | inr high ↦
+    rw (
+      get_or_past (links_at head left links) i no_link (omega (arith, length-links_at head left links)),
+      get_or_past (links_at head left' links) i no_link (omega (arith, length-links_at head left' links)),
+    ) (refl, refl)
+]
+
 same_tails : (head left left' : List ℕ) (links : ℕ) → tail_in (links_at head left links) ≡ tail_in (links_at head left' links)
 unfolding tail_in
-same_tails head left left' links = fun_ext (λ arc. ?)
+same_tails head left left' links = fun_ext (λ arc. λ k.
+    cond (arc % 2 == 0) ((same_link head left left' links (arc / 2)).0 k) ((same_link head left left' links (arc / 2)).1 k))
+
+same_heads : (head left left' : List ℕ) (links : ℕ) → head_in (links_at head left links) ≡ head_in (links_at head left' links)
+unfolding head_in
+same_heads head left left' links = fun_ext (λ arc. λ k.
+    cond (arc % 2 == 0) ((same_link head left left' links (arc / 2)).1 k) ((same_link head left left' links (arc / 2)).0 k))
 
 -- an index of one network is one of another with the same ends
 same_index : (net other : Net) (first order heads : List ℕ) → tail_in net.links ≡ tail_in other.links
@@ -211,4 +335,74 @@ same_index net other first order heads tails goes number router group = record {
   heads_at =
       group.heads_at
       ∙ (λ i. map (goes i) (filter (λ arc. tails i arc == router) (range_with_len 0 (2 * number i))));
+}
+
+-- a list that is written back over the whole of another
+pub written : (n : ℕ) (xs ys : List ℕ) → length xs ≡ n → take n (xs ++ ys) ≡ xs
+written n xs ys e =
+    let low : n ≤ length xs = omega arith in
+    take-append-le n xs ys low ∙ take_all n xs (omega arith)
+
+-- ---- for a load
+
+pub loaded_index : (routers : ℕ) (links : List Link) (m : ℕ) (first order heads head left left' : List ℕ)
+    → IsIndexed (record { routers = routers; links = links_at head left m }) first order heads → m ≡ length links
+    → links_at head left' m ≡ links → IsIndexed (record { routers = routers; links = links }) first order heads
+loaded_index routers links m first order heads head left left' indexed number same router low =
+    same_index (record { routers = routers; links = links_at head left m }) (record { routers = routers; links = links })
+        first order heads
+        (same_tails head left left' m ∙ ap tail_in same)
+        (same_heads head left left' m ∙ ap head_in same)
+        (length-links_at head left m ∙ number) router (indexed router low)
+
+-- the lists are of the lengths that they had
+pub record SameRooms (first order heads head left first' order' heads' head' left' : List ℕ) : Type 0 where
+  pub first_room : length first' ≡ length first
+  pub order_room : length order' ≡ length order
+  pub heads_room : length heads' ≡ length heads
+  pub head_room : length head' ≡ length head
+  pub left_room : length left' ≡ length left
+
+pub loaded_stored : (room_routers room_links routers links routers' : ℕ) (net_links : List Link)
+    (first order heads head left first' order' heads' head' left' : List ℕ)
+    → IsStored room_routers room_links routers links first order heads head left
+    → SameRooms first order heads head left first' order' heads' head' left'
+    → routers' ≤ room_routers → length net_links ≤ room_links → IsInLimits routers' net_links
+    → HasHeads net_links head' → HasCaps net_links left'
+    → IsIndexed (record { routers = routers'; links = net_links }) first' order' heads'
+    → IsStored room_routers room_links routers' (length net_links) first' order' heads' head' left'
+loaded_stored room_routers room_links routers links routers' net_links first order heads head left first' order' heads' head' left'
+    stored rooms routers_fit links_fit limits at_heads at_caps indexed =
+    let same = sym (loaded_links net_links head' left' at_heads at_caps) in record {
+      few_routers = stored.few_routers;
+      few_links = stored.few_links;
+      routers_fit = routers_fit;
+      links_fit = links_fit;
+      first_room = rooms.first_room ∙ stored.first_room;
+      order_room = rooms.order_room ∙ stored.order_room;
+      heads_room = rooms.heads_room ∙ stored.heads_room;
+      head_room = rooms.head_room ∙ stored.head_room;
+      left_room = rooms.left_room ∙ stored.left_room;
+      limits = subst (IsInLimits routers') same limits;
+      pairs = loaded_pairs net_links left' at_caps;
+      indexed = subst (λ (ls : List Link). IsIndexed (record { routers = routers'; links = ls }) first' order' heads') same indexed;
+    }
+
+-- what contracts see after a load
+pub record IsLoaded (old new : ResidualView) (net : Net) : Type 0 where
+  pub room_routers : new.room_routers ≡ old.room_routers
+  pub room_links : new.room_links ≡ old.room_links
+  pub net_is : new.net ≡ net
+  pub flow_is : new.flow ≡ replicate (length net.links) (pos 0)
+
+pub loaded_view : (room_routers room_links routers links : ℕ) (head left : List ℕ) (old : ResidualView) (net : Net)
+    (head' left' : List ℕ)
+    → view_of room_routers room_links routers links head left ≡ old → HasHeads net.links head' → HasCaps net.links left'
+    → IsLoaded old (view_of room_routers room_links net.routers (length net.links) head' left') net
+unfolding view_of
+loaded_view room_routers room_links routers links head left old net head' left' is at_heads at_caps = record {
+  room_routers = ap (λ (v : ResidualView). v.room_routers) is;
+  room_links = ap (λ (v : ResidualView). v.room_links) is;
+  net_is = λ i. record { routers = net.routers; links = loaded_links net.links head' left' at_heads at_caps i };
+  flow_is = loaded_flows net.links left' at_caps;
 }

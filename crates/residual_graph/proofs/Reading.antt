@@ -1,17 +1,22 @@
 -- What a call that reads may rely on at a router, at an arc and at a link.
 use Rattle.std.proofs.Common.{◌≡◌, ℕ, ◌+◌, ◌*◌, ◌/◌, ◌%◌, ◌<◌, ◌≤◌, List, length, get_or, sym, ap, ◌∙◌, subst, inl, inr, ne_eqb, arith}
-use Rattle.std.specs.Prelude.{ℤ, pos, ◌==◌, slice_index_or}
+use Rattle.std.specs.Prelude.{ℤ, pos, ◌≤ℤ◌, ◌==◌, slice_index_or}
 use Rattle.std.specs.List.{range_with_len}
 use Rattle.std.specs.List.Sorted.{IsStrictlyIncreasing}
 use Rattle.std.proofs.lemmas.List.FromFn.{length-range_with_len, get_or-range_with_len}
+use Rattle.std.proofs.lemmas.List.Sums.{length-filter, count_by-le-length}
 use Rattle.std.proofs.lemmas.List.Kept.{IsStrictlyIncreasing-filter}
+use Rattle.std.specs.Int.RustNames.{bit_xor}
+use Rattle.std.proofs.lemmas.Int.{ints}
 use Rattle.std.proofs.lemmas.Bool.{cases_eq}
 use Rattle.cut_model.specs.declared.network.Link.{Link}
 use Rattle.cut_model.specs.Net.{Net, IsInLimits}
 use Rattle.residual_graph.specs.Arcs.{no_link, arc_count, head_in, tail_in, head_of, tail_of, arcs_from}
+use Rattle.residual_graph.specs.Fills.{after}
 use Rattle.residual_graph.specs.Indexed.{IsGroup}
 use Rattle.residual_graph.specs.Storage.{cap_at, flow_at, links_at, view_of, IsStored}
-use Rattle.residual_graph.specs.View.{ResidualView, IsSound, left_on}
+use Rattle.residual_graph.specs.View.{ResidualView, IsSound, left_on, pushed}
+use Rattle.residual_graph.proofs.Moves.{IsPush, push_is}
 use Rattle.residual_graph.proofs.Views.{net_is, flow_is, counts_are, head_is, left_is, sound_view, length-links_at, get_or-links_at, get_or-flows_at}
 
 -- A router's places are in the lists, and its arcs stand there.
@@ -114,3 +119,42 @@ pub arcs_ascend : (net : Net) (router : ℕ) → IsStrictlyIncreasing (arcs_from
 unfolding arcs_from
 arcs_ascend net router =
     IsStrictlyIncreasing-filter (λ arc. tail_of net arc == router) (range_with_len 0 (arc_count net)) (ascends_from 0 (arc_count net))
+
+-- No more arcs leave a router than there are.
+pub few_arcs : (net : Net) (router : ℕ) → length (arcs_from net router) ≤ arc_count net
+unfolding arcs_from
+few_arcs net router =
+    omega (
+      arith,
+      length-filter (λ arc. tail_of net arc == router) (range_with_len 0 (arc_count net)),
+      count_by-le-length (λ arc. tail_of net arc == router) (range_with_len 0 (arc_count net)),
+      length-range_with_len 0 (arc_count net),
+    )
+
+-- What a push of an amount along an arc needs, and what contracts then see.
+pub record PushAt (room_routers room_links routers links : ℕ) (first order heads head left : List ℕ) (view : ResidualView)
+    (arc amount : ℕ) : Type 0 where
+  pub enough : amount ≤ get_or left arc 0
+  pub inside : arc < length left
+  pub push : IsPush room_routers room_links routers links first order heads head left arc (bit_xor arc 1) amount
+  pub view_is :
+    view_of room_routers room_links routers links head (after left arc (bit_xor arc 1) amount)
+    ≡ record view { flow = pushed view.flow arc amount }
+
+pub push_at : (room_routers room_links routers links : ℕ) (first order heads head left : List ℕ) (view : ResidualView)
+    → IsStored room_routers room_links routers links first order heads head left
+    → view_of room_routers room_links routers links head left ≡ view → (arc amount : ℕ) → arc < arc_count view.net
+    → pos amount ≤ℤ left_on view arc
+    → PushAt room_routers room_links routers links first order heads head left view arc amount
+unfolding view_of
+push_at room_routers room_links routers links first order heads head left view stored is arc amount low left_over =
+    let at = at_arc room_routers room_links routers links first order heads head left view stored is arc low in
+    let counts = counts_are room_routers room_links routers links head left view is in
+    let enough : amount ≤ get_or left arc 0 = omega (arith, ints, at.left_is, left_over) in
+    let push = push_is room_routers room_links routers links first order heads head left arc amount stored
+        (omega (arith, counts.2)) enough in record {
+      enough = enough;
+      inside = at.left_inside;
+      push = push;
+      view_is = push.view ∙ ap (λ (v : ResidualView). record v { flow = pushed v.flow arc amount }) is;
+    }

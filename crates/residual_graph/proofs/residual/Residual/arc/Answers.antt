@@ -1,4 +1,5 @@
-use Rattle.std.proofs.Common.{sym, ap, length, get_or, ◌∙◌, arith}
+use Rattle.std.proofs.Common.{◌≡◌, sym, ap, length, get_or, ◌∙◌, arith}
+use Rattle.residual_graph.specs.Arcs.{arcs_from}
 use Rattle.residual_graph.proofs.Reading.{at_router, sound_of, arcs_ascend}
 use Rattle.residual_graph.proofs.residual.Residual.arc.Goals as goal
 
@@ -19,7 +20,7 @@ returns c =
 
 pub bounds-group-place : goal.bounds-group-place
 bounds-group-place c =
-    let same = c.group.ensures
+    let same : c.group.result.now ≡ arcs_from c.args.self.now.net c.args.router = c.group.ensures
         ∙ rw (c.deref.ensures.value, c.deref-2.ensures.value)
         (at_router _ _ _ _ _ _ _ _ _ _ c.self.invariant c.self.view_is c.args.router c.requires.router).group.arcs_at in
     omega (arith, ap length same, c.requires.place)
