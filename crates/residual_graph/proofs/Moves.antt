@@ -16,7 +16,7 @@ use Rattle.residual_graph.specs.Fills.{HasCaps, HasHeads, after}
 use Rattle.residual_graph.specs.Indexed.{IsGroup, IsIndexed}
 use Rattle.residual_graph.specs.Storage.{cap_at, link_at, links_at, flow_at, flows_at, view_of, IsStored}
 use Rattle.residual_graph.specs.View.{ResidualView, pushed}
-use Rattle.residual_graph.proofs.Views.{there_or_back, length-links_at, get_or-links_at, length-flows_at, get_or-flows_at}
+use Rattle.residual_graph.proofs.Views.{rooms_are, there_or_back, length-links_at, get_or-links_at, length-flows_at, get_or-flows_at}
 
 -- ---- twins
 
@@ -395,7 +395,7 @@ pub record IsLoaded (old new : ResidualView) (net : Net) : Type 0 where
   pub net_is : new.net ≡ net
   pub flow_is : new.flow ≡ replicate (length net.links) (pos 0)
 
-pub loaded_view : (room_routers room_links routers links : ℕ) (head left : List ℕ) (old : ResidualView) (net : Net)
+loaded_view : (room_routers room_links routers links : ℕ) (head left : List ℕ) (old : ResidualView) (net : Net)
     (head' left' : List ℕ)
     → view_of room_routers room_links routers links head left ≡ old → HasHeads net.links head' → HasCaps net.links left'
     → IsLoaded old (view_of room_routers room_links net.routers (length net.links) head' left') net
@@ -406,3 +406,44 @@ loaded_view room_routers room_links routers links head left old net head' left' 
   net_is = λ i. record { routers = net.routers; links = loaded_links net.links head' left' at_heads at_caps i };
   flow_is = loaded_flows net.links left' at_caps;
 }
+
+-- the lists after a load, and what contracts see of them
+pub record Load (room_routers room_links routers' links' : ℕ) (first' order' heads' head' left' : List ℕ) (old : ResidualView)
+    (net : Net) : Type 0 where
+  pub stored : IsStored room_routers room_links routers' links' first' order' heads' head' left'
+  pub view : IsLoaded old (view_of room_routers room_links routers' links' head' left') net
+
+pub loaded : (room_routers room_links routers links : ℕ) (first order heads head left : List ℕ) (old : ResidualView) (net : Net)
+    (net_links : List Link) (routers' links' : ℕ) (first' order' heads' head' left' : List ℕ)
+    → IsStored room_routers room_links routers links first order heads head left
+    → view_of room_routers room_links routers links head left ≡ old
+    → net_links ≡ net.links → routers' ≡ net.routers → links' ≡ length net.links
+    → SameRooms first order heads head left first' order' heads' head' left'
+    → net.routers ≤ old.room_routers → length net.links ≤ old.room_links → IsInLimits net.routers net.links
+    → HasHeads net_links head' → HasCaps net_links left'
+    → IsIndexed (record { routers = routers'; links = net_links }) first' order' heads'
+    → Load room_routers room_links routers' links' first' order' heads' head' left' old net
+loaded room_routers room_links routers links first order heads head left old net net_links routers' links'
+    first' order' heads' head' left' stored is el er en rooms routers_fit links_fit limits at_heads at_caps indexed =
+    let room = rooms_are room_routers room_links routers links head left old is in
+    let heads_here : HasHeads net.links head' = subst (λ ls. HasHeads ls head') el at_heads in
+    let caps_here : HasCaps net.links left' = subst (λ ls. HasCaps ls left') el at_caps in
+    let index_here : IsIndexed net first' order' heads' =
+        subst (λ (n : Net). IsIndexed n first' order' heads') (λ i. record { routers = er i; links = el i }) indexed in
+    let done : Load room_routers room_links net.routers (length net.links) first' order' heads' head' left' old net = record {
+      stored = loaded_stored room_routers room_links routers links net.routers net.links first order heads head left
+          first' order' heads' head' left' stored rooms (omega (arith, room.0)) (omega (arith, room.1)) limits
+          heads_here caps_here index_here;
+      view = loaded_view room_routers room_links routers links head left old net head' left' is heads_here caps_here;
+    } in
+    subst (λ n. Load room_routers room_links n links' first' order' heads' head' left' old net) (sym er)
+    (subst (λ m. Load room_routers room_links net.routers m first' order' heads' head' left' old net) (sym en) done)
+
+-- the index stays where the ends do
+pub kept_index : (room_routers room_links routers links : ℕ) (first order heads head left left' : List ℕ) (net_links : List Link)
+    → IsStored room_routers room_links routers links first order heads head left → links ≡ length net_links
+    → HasHeads net_links head → HasCaps net_links left'
+    → IsIndexed (record { routers = routers; links = net_links }) first order heads
+kept_index room_routers room_links routers links first order heads head left left' net_links stored number at_heads at_caps =
+    loaded_index routers net_links links first order heads head left left' stored.indexed number
+        (ap (links_at head left') number ∙ loaded_links net_links head left' at_heads at_caps)

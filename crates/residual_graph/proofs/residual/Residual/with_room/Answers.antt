@@ -2,7 +2,8 @@ use Rattle.std.proofs.Common.{◌≡◌, arith}
 use Rattle.residual_graph.proofs.residual.Residual.with_room.Goals as goal
 
 pub invariant_of-result : goal.invariant_of-result
-invariant_of-result c = ?
+invariant_of-result c =
+    let a = c.in_ok-vec.ensures tt in let b = c.in_ok-vec-2.ensures tt in ?
 
 pub returns-clause-room_routers : goal.returns-clause-room_routers
 returns-clause-room_routers c = ?
