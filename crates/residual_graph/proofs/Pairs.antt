@@ -31,10 +31,10 @@ heads-more links head i within before k low = elim (cases_eq k i) [
     back = pair-second head i (get_or links i no_link).b (get_or links i no_link).a within;
   })
   | inr ne ↦
-    let was = before k (omega arith) in record {
-      there = pair-other head i _ _ (2 * k) (λ e. ne (omega arith)) (λ e. omega arith) ∙ was.there;
-      back = pair-other head i _ _ (2 * k + 1) (λ e. omega arith) (λ e. ne (omega arith)) ∙ was.back;
-    }
+      let was = before k (omega arith) in record {
+        there = pair-other head i _ _ (2 * k) (λ e. ne (omega arith)) (λ e. omega arith) ∙ was.there;
+        back = pair-other head i _ _ (2 * k + 1) (λ e. omega arith) (λ e. ne (omega arith)) ∙ was.back;
+      }
 ]
 
 -- the capacities of one link more
@@ -47,10 +47,10 @@ caps-more links left i within before k low = elim (cases_eq k i) [
     back = pair-second left i (get_or links i no_link).cap (get_or links i no_link).cap within;
   })
   | inr ne ↦
-    let was = before k (omega arith) in record {
-      there = pair-other left i _ _ (2 * k) (λ e. ne (omega arith)) (λ e. omega arith) ∙ was.there;
-      back = pair-other left i _ _ (2 * k + 1) (λ e. omega arith) (λ e. ne (omega arith)) ∙ was.back;
-    }
+      let was = before k (omega arith) in record {
+        there = pair-other left i _ _ (2 * k) (λ e. ne (omega arith)) (λ e. omega arith) ∙ was.there;
+        back = pair-other left i _ _ (2 * k + 1) (λ e. omega arith) (λ e. ne (omega arith)) ∙ was.back;
+      }
 ]
 
 -- the heads of one link more, where they were there already

@@ -4,8 +4,8 @@ ghost use Rattle.std.specs.List.Sorted.{IsStrictlyIncreasing};
 ghost use Rattle.residual_graph.specs.Arcs.{arc_count, arcs_from, head_of};
 ghost use Rattle.residual_graph.specs.View.{IsSound, left_on, pushed};
 
-use crate::capacities::set_left;
-use crate::index::{has_heads, index_arcs, set_heads};
+use crate::capacities::{flow_of_pair, move_amount, set_left};
+use crate::index::{group, has_heads, index_arcs, set_heads};
 use cut_model::{Network, NoMemory, Steps};
 use std::alloc::Global;
 use std::marker::Model;
@@ -122,9 +122,7 @@ impl Residual {
         ensures steps { steps.new ≡ steps.old + 1 }
     {
         steps.tick();
-        let twin = arc ^ 1;
-        self.left[arc as usize] -= amount;
-        self.left[twin as usize] += amount;
+        move_amount(&mut self.left, arc, arc ^ 1, amount);
     }
 
     /// The number of arcs that leave a router. `arc` gives each of them at just one place below it.
@@ -135,7 +133,7 @@ impl Residual {
         ensures ascending { IsStrictlyIncreasing (arcs_from self.now.net router) }
         ensures sound { IsSound self.now }
     {
-        self.first[router as usize + 1] - self.first[router as usize]
+        group(&self.first, &self.order, router).len() as u32
     }
 
     /// The arc at a place among those that leave a router, in ascending order.
@@ -145,7 +143,7 @@ impl Residual {
         requires place { place < length (arcs_from self.now.net router) }
         ensures { result ≡ slice_index (arcs_from self.now.net router) place }
     {
-        self.order[(self.first[router as usize] + place) as usize]
+        group(&self.first, &self.order, router)[place as usize]
     }
 
     /// The router to which an arc goes.
@@ -164,8 +162,7 @@ impl Residual {
         requires { link < length self.now.net.links }
         ensures { result ≡ slice_index_or self.now.flow link (pos 0) }
     {
-        let arc = 2 * link as usize;
-        (self.left[arc + 1] as i64 - self.left[arc] as i64) / 2
+        flow_of_pair(&self.left, link)
     }
 
     /// The arcs that leave a router, in ascending order.
@@ -175,9 +172,7 @@ impl Residual {
         ensures value { result.now ≡ arcs_from self.now.net router }
         ensures sound { IsSound self.now }
     {
-        let from = self.first[router as usize] as usize;
-        let to = self.first[router as usize + 1] as usize;
-        &self.order[from..to]
+        group(&self.first, &self.order, router)
     }
 
     /// The heads of the arcs that leave a router, in the order of `arcs_out`.
@@ -187,8 +182,6 @@ impl Residual {
         ensures value { result.now ≡ map (head_of self.now.net) (arcs_from self.now.net router) }
         ensures sound { IsSound self.now }
     {
-        let from = self.first[router as usize] as usize;
-        let to = self.first[router as usize + 1] as usize;
-        &self.heads[from..to]
+        group(&self.first, &self.heads, router)
     }
 }

@@ -1,0 +1,49 @@
+-- The definitions on a small network, by computing: two parallel links, a self link, and one more.
+use Rattle.std.proofs.Common.{◌≡◌, ℕ, List, [], ◌∷◌, refl}
+use Rattle.std.specs.Prelude.{ℤ, pos, negsuc}
+use Rattle.cut_model.specs.declared.network.Link.{Link}
+use Rattle.cut_model.specs.Net.{Net}
+use Rattle.residual_graph.specs.Arcs.{tail_in, head_in, tail_of, head_of, arcs_from}
+use Rattle.residual_graph.specs.View.{ResidualView, left_on, pushed}
+
+joins : ℕ → ℕ → ℕ → Link
+joins a b cap = record { a = a; b = b; cap = cap }
+
+small : Net
+unfolding joins
+small = record { routers = 3; links = joins 0 1 2 ∷ joins 0 1 3 ∷ joins 1 1 9 ∷ joins 2 1 4 ∷ [] }
+
+-- a flow of 1 on the first link, and of 4 against the direction of the last
+held : ResidualView
+unfolding small
+held = record { room_routers = 3; room_links = 4; net = small; flow = pos 1 ∷ pos 0 ∷ pos 0 ∷ negsuc 3 ∷ [] }
+
+there : tail_of small 6 ≡ 2
+unfolding tail_in small joins
+there = refl
+
+back : head_of small 7 ≡ 2
+unfolding head_in small joins
+back = refl
+
+-- a self link has both of its arcs at its router
+own_arcs : arcs_from small 1 ≡ 1 ∷ 3 ∷ 4 ∷ 5 ∷ 7 ∷ []
+unfolding arcs_from tail_in small joins
+own_arcs = refl
+
+left_there : left_on held 0 ≡ pos 1
+unfolding left_on held small joins
+left_there = refl
+
+left_back : left_on held 1 ≡ pos 3
+unfolding left_on held small joins
+left_back = refl
+
+nothing_left : left_on held 7 ≡ pos 0
+unfolding left_on held small joins
+nothing_left = refl
+
+-- a push along an arc back lessens the flow
+less : pushed (pos 1 ∷ pos 5 ∷ []) 3 2 ≡ pos 1 ∷ pos 3 ∷ []
+unfolding pushed
+less = refl
