@@ -155,7 +155,13 @@ impl MemorySink {
     /// counted from 1, whose numbers are in `failing` fail and write nothing. One that doesn't fit
     /// writes what fits and fails.
     pub fn make(alloc: Global, room: usize, failing: Vec<u32>) -> Result<MemorySink, NoMemory>
-        ensures { IfOk result (λ s. s ≡ record { bytes = []; room = room; failing = failing.items; calls = 0; faults = 0 }) }
+        ensures { IfOk result (λ s. s ≡ record {
+          bytes = [];
+          room = room;
+          failing = failing.items;
+          calls = 0;
+          faults = 0;
+        }) }
     {
         Ok(MemorySink {
             bytes: Vec::with_capacity(alloc, room)?,
