@@ -1,10 +1,10 @@
 -- Texts that are put one after another.
-use Rattle.std.proofs.Common.{◌≡◌, ℕ, ◌+◌, ◌-◌, ◌^◌, ◌≤◌, min, List, [], ◌++◌, length, take, Bool, None, Some, Ok, Err, Result, OnErr, IsTrue, refl, sym, ap, ◌∙◌, arith, add_assoc, append_assoc, subst, length-append, zero-add}
+use Rattle.std.proofs.Common.{◌≡◌, ℕ, ◌+◌, ◌≤◌, List, [], ◌++◌, length, take, Bool, None, Some, Ok, Err, Result, IsTrue, refl, sym, ap, ◌∙◌, arith, append_assoc, subst, length-append, zero-add}
 use Rattle.std.proofs.lemmas.List.{take-append-le, append-nil}
 use Rattle.std.proofs.Math.Seq.{take-append-add}
 use Rattle.std.specs.declared.option.Option.{Option}
 use Rattle.std.specs.Io.KnownBytes.{Appends}
-use Rattle.std.specs.Result.{IsErr, IsOk}
+use Rattle.std.specs.Result.{IsErr}
 use Rattle.wires.specs.Beside.{Beside}
 use Rattle.wires.specs.Bytes.{PutAppends}
 use Rattle.wires.specs.Causes.{HasCause, Rose}

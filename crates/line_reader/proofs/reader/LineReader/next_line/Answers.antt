@@ -1,6 +1,5 @@
 use Rattle.std.proofs.Common.{arith, ◌≡◌, ◌<◌, ◌+◌, ◌∙◌, length, refl, ap, sym, [], Ok, inl, inr, subst}
 use Rattle.line_reader.proofs.Steps.{begun, found, passed, read_on, passes, nothing, front_empty, front_some}
-use Rattle.line_reader.specs.Held.{Held}
 use Rattle.line_reader.specs.Passing.{Passes}
 use Rattle.line_reader.proofs.reader.LineReader.next_line.Goals as goal
 

@@ -1,7 +1,7 @@
-use Rattle.std.proofs.Common.{ℕ, List, arith, ◌≡◌, ◌∙◌, ◌-◌, ◌+◌, ◌<◌, length, take, drop, sym, ap}
+use Rattle.std.proofs.Common.{ℕ, arith, ◌∙◌, ◌-◌, ◌+◌, ◌<◌, length, take, drop, sym, ap}
 use Rattle.std.proofs.lemmas.List.{length-take, length-drop}
 use Rattle.line_reader.proofs.Fronts.{held_around}
-use Rattle.line_reader.specs.Held.{Held, IsOpen}
+use Rattle.line_reader.specs.Held.{Held}
 use Rattle.line_reader.proofs.reader.LineReader.take_part.Goals as goal
 
 pub returns-in-Some-clause-found : goal.returns-in-Some-clause-found

@@ -1,4 +1,4 @@
-use Rattle.std.proofs.Common.{◌≡◌, ◌<◌, ◌∙◌, ap, sym, arith}
+use Rattle.std.proofs.Common.{◌<◌, ◌∙◌, ap, sym, arith}
 use Rattle.wires.proofs.Fronts.{rest_is, front_copied, end_copied}
 use Rattle.wires.specs.Memory.{Supply}
 use Rattle.wires.proofs.memory.MemorySourceSource.read.Goals as goal

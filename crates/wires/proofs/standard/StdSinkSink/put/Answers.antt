@@ -1,4 +1,4 @@
-use Rattle.std.proofs.Common.{ℕ, ◌+◌, ◌≤◌, ◌-◌, length, arith}
+use Rattle.std.proofs.Common.{ℕ, ◌+◌, ◌≤◌, length, arith}
 use Rattle.std.proofs.lemmas.List.{length-take, length-drop}
 use Rattle.wires.proofs.Fronts.{Appends-on}
 use Rattle.wires.proofs.standard.StdSinkSink.put.Goals as goal

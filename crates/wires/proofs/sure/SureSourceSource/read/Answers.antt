@@ -1,4 +1,4 @@
-use Rattle.std.proofs.Common.{◌≡◌, ◌∙◌, ap, sym}
+use Rattle.std.proofs.Common.{◌∙◌, ap, sym}
 use Rattle.wires.proofs.Fronts.{rest_is, front_copied, rest_copied}
 use Rattle.wires.specs.Memory.{Sure}
 use Rattle.wires.proofs.sure.SureSourceSource.read.Goals as goal
