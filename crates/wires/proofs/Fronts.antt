@@ -1,5 +1,6 @@
 -- What reads and writes of a part do to known bytes.
-use Rattle.std.proofs.Common.{◌≡◌, ℕ, ◌+◌, ◌-◌, ◌<◌, ◌≤◌, min, List, [], ◌++◌, length, take, drop, None, Some, sym, ap, ◌∙◌, arith, append_assoc, length-drop, take_all}
+use Rattle.std.proofs.Common.{◌≡◌, ℕ, ◌+◌, ◌-◌, ◌<◌, ◌≤◌, min, List, [], ◌++◌, length, take, drop, None, Some}
+use Rattle.std.proofs.Common.{sym, ap, ◌∙◌, arith, append_assoc, length-drop, take_all}
 use Rattle.std.proofs.lemmas.List.{take-append-drop, take-take, drop-drop, drop_all}
 use Rattle.std.proofs.Math.Seq.{take-add}
 use Rattle.std.specs.declared.option.Option.{Option}

@@ -1,5 +1,7 @@
 -- Texts that are put one after another.
-use Rattle.std.proofs.Common.{◌≡◌, ℕ, ◌+◌, ◌≤◌, List, [], ◌++◌, length, take, Bool, None, Some, Ok, Err, Result, IsTrue, refl, sym, ap, ◌∙◌, arith, append_assoc, subst, length-append, zero-add}
+use Rattle.std.proofs.Common.{◌≡◌, ℕ, ◌+◌, ◌≤◌, List, [], ◌++◌, length, take, Bool, None, Some, Ok, Err}
+use Rattle.std.proofs.Common.{Result, IsTrue, refl, sym, ap, ◌∙◌, arith, append_assoc, subst, length-append}
+use Rattle.std.proofs.Common.{zero-add}
 use Rattle.std.proofs.lemmas.List.{take-append-le, append-nil}
 use Rattle.std.proofs.Math.Seq.{take-append-add}
 use Rattle.std.specs.declared.option.Option.{Option}
@@ -83,8 +85,8 @@ pub puts_then : {S D E : Type 0} {written : S → Option (List ℕ)} {write_faul
     → Puts written write_faults beside_sink takes mid new result y
     → Puts written write_faults beside_sink takes old new result (x ++ y)
 puts_then
-    {written = written} {write_faults = faults} {takes = takes} {old = old} {mid = mid} {new = new} {u = u} {result = result} x y
-    p q =
+    {written = written} {write_faults = faults} {takes = takes} {old = old} {mid = mid} {new = new} {u = u}
+    {result = result} x y p q =
     let longer : (n : ℕ) → IsTrue (takes old (length (x ++ y) + n)) → IsTrue (takes mid (length y + n)) =
     λ n h. p.room (length y + n) (subst (λ k. IsTrue (takes old k)) (length_on x y n) h) in record {
       bytes = PutAppends-append (written old) (written mid) (written new) result x y p.bytes q.bytes;

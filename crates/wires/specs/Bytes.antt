@@ -1,5 +1,6 @@
 -- What a read and a put do to bytes.
-use Rattle.std.specs.Prelude.{ℕ, ◌≤◌, List, length, take, Bool, false, nat_eq, nat_lt, ◌&&◌, Result, Ok, Err, MatchResult}
+use Rattle.std.specs.Prelude.{ℕ, ◌≤◌, List, length, take, Bool, false, nat_eq, nat_lt, ◌&&◌, Result, Ok, Err}
+use Rattle.std.specs.Prelude.{MatchResult}
 use Rattle.std.specs.Io.KnownBytes.{Appends}
 use Rattle.std.specs.declared.option.Option.{Option}
 

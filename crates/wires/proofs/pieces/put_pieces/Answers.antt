@@ -1,20 +1,5 @@
-use Rattle.std.proofs.Common.{
-  ℕ,
-  List,
-  [],
-  ◌≡◌,
-  ◌+◌,
-  Ok,
-  Err,
-  Result,
-  take,
-  drop,
-  map,
-  get_or,
-  sym,
-  subst,
-  take_all,
-}
+use Rattle.std.proofs.Common.{ℕ, List, [], ◌≡◌, ◌+◌, Ok, Err, Result, take, drop, map, get_or, sym, subst}
+use Rattle.std.proofs.Common.{take_all}
 use Rattle.std.specs.List.{concat}
 use denote.Bor.{Bor}
 use Rattle.wires.specs.declared.faults.Failed.{Failed}

@@ -10,7 +10,8 @@ returns-in-Some-clause-found c = λ _.
     let from = c.self.inside.from in
     let to = c.self.inside.to in
     let at = c.in-Some.at in
-    let within : at < length (take (to - from) (drop from bytes)) = rw c.deref.ensures.value at c.in-Some.ensures.place in
+    let within : at < length (take (to - from) (drop from bytes)) =
+    rw c.deref.ensures.value at c.in-Some.ensures.place in
     let inside : from + at < to = omega (arith, within, length-take {A = ℕ}, length-drop {A = ℕ}) in
     let is = rw c.deref.ensures.value at c.in-Some.ensures.feed in
     let whole = held_around bytes from to at inside within is in (
