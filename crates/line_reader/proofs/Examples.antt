@@ -1,5 +1,5 @@
 -- The definitions on a small example, by computing: a reader that took `ab\nc` and passed its first line.
-use Rattle.std.proofs.Common.{◌≡◌, [], ◌∷◌, false, true, Some, refl, codes, inl, inr}
+use Rattle.std.proofs.Common.{◌≡◌, [], false, true, Some, refl, codes, inl, inr}
 use Rattle.line_reader.specs.Ends.{IsOver}
 use Rattle.line_reader.specs.Held.{Held, ahead, IsOpen}
 use Rattle.line_reader.specs.Passing.{Goes}

@@ -1,29 +1,8 @@
 -- Fronts of lists, and the bytes that a reader holds.
-use Rattle.std.proofs.Common.{
-  ◌≡◌,
-  ℕ,
-  ◌+◌,
-  ◌-◌,
-  ◌<◌,
-  ◌≤◌,
-  min,
-  List,
-  [],
-  ◌∷◌,
-  ◌++◌,
-  length,
-  take,
-  drop,
-  sym,
-  ap,
-  ◌∙◌,
-  arith,
-  take_all,
-  drop-cons,
-  get_or,
-  add-one,
-}
-use Rattle.std.proofs.lemmas.List.{take-append-drop, take-append-le, take-take, length-take, drop-drop, drop-take}
+use Rattle.std.proofs.Common.{◌≡◌, ℕ, ◌+◌, ◌-◌, ◌<◌, ◌≤◌, min, List, ◌∷◌, ◌++◌, length, take, drop, sym, ap}
+use Rattle.std.proofs.Common.{◌∙◌, arith, take_all, drop-cons, get_or, add-one}
+use Rattle.std.proofs.lemmas.List.{take-append-drop, take-append-le, take-take, length-take, drop-drop}
+use Rattle.std.proofs.lemmas.List.{drop-take}
 use Rattle.std.proofs.lemmas.Grind.{common_steps}
 use Rattle.std.proofs.Math.Seq.{take-append-add}
 use Rattle.text_forms.specs.Lines.{front_of}

@@ -1,25 +1,6 @@
 -- What one part of a line does to what lies ahead.
-use Rattle.std.proofs.Common.{
-  ◌≡◌,
-  ℕ,
-  ◌+◌,
-  ◌<◌,
-  List,
-  [],
-  ◌∷◌,
-  ◌++◌,
-  length,
-  None,
-  Some,
-  refl,
-  sym,
-  ap,
-  ◌∙◌,
-  arith,
-  append_assoc,
-  subst,
-  length-append,
-}
+use Rattle.std.proofs.Common.{◌≡◌, ℕ, ◌+◌, ◌<◌, List, [], ◌∷◌, ◌++◌, length, None, Some, refl, sym, ap, ◌∙◌}
+use Rattle.std.proofs.Common.{arith, append_assoc, subst, length-append}
 use Rattle.std.proofs.lemmas.List.{append-nil, length-take}
 use Rattle.std.proofs.lemmas.List.Elements.{All-append}
 use Rattle.std.specs.declared.option.Option.{Option}
@@ -44,7 +25,8 @@ Consumes-held (Some x) (Some y) held part more before is p =
 
 -- bytes are read when none is held
 pub Consumes-read : (all left after : Option (List ℕ)) (held before : List ℕ)
-    → Consumes all (prepend_known [] left) before → Consumes left after held → Consumes all (prepend_known held after) before
+    → Consumes all (prepend_known [] left) before → Consumes left after held
+    → Consumes all (prepend_known held after) before
 Consumes-read None left after held before p q = tt
 Consumes-read (Some x) None after held before p q = absurd p
 Consumes-read (Some x) (Some y) None held before p q = absurd q
@@ -60,14 +42,16 @@ Consumes-on (Some x) (Some y) (Some z) before part p q =
     p ∙ ap (λ l. before ++ l) q ∙ sym (append_assoc before part z)
 
 -- since the start a part of a line was passed, and this is its front
-pub record IsWithin (start : Held) (left0 : Option (List ℕ)) (held : Held) (left : Option (List ℕ)) (line : List ℕ) : Type 0 where
+pub record IsWithin (start : Held) (left0 : Option (List ℕ)) (held : Held) (left : Option (List ℕ))
+    (line : List ℕ) : Type 0 where
   pub before : List ℕ
   pub clean : NoFeed before
   pub goes : Goes start left0 held left before
   pub front : line ≡ front_of before
 
 -- at the start nothing was passed
-pub begun : (start : Held) (left0 : Option (List ℕ)) (line : List ℕ) → line ≡ [] → IsWithin start left0 start left0 line
+pub begun : (start : Held) (left0 : Option (List ℕ)) (line : List ℕ) → line ≡ []
+    → IsWithin start left0 start left0 line
 begun start left0 line none = record {
   before = [];
   clean = λ k d h. absurd (omega arith);
@@ -143,8 +127,8 @@ read_on {start = start} {old = old} {left0 = left0} {left = left} {after = after
     }
 
 -- a part of a line behind which nothing is held
-pub passes : {start held : Held} {left0 left : Option (List ℕ)} {line : List ℕ} (w : IsWithin start left0 held left line)
-    → held.bytes ≡ [] → Passes start left0 held left w.before
+pub passes : {start held : Held} {left0 left : Option (List ℕ)} {line : List ℕ}
+    (w : IsWithin start left0 held left line) → held.bytes ≡ [] → Passes start left0 held left w.before
 passes w spent = record { clean = w.clean; goes = w.goes; spent = spent }
 
 -- only an empty list has no length

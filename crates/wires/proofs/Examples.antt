@@ -16,7 +16,14 @@ front_written = (1, omega arith, refl)
 
 -- a source that gives three bytes a read, and fails at the second
 abbrev supply : ℕ → Bool → Supply
-supply calls ended = record { left = codes "abcde"; piece = 3; failing = 2 ∷ []; calls = calls; faults = 0; ended = ended }
+supply calls ended = record {
+  left = codes "abcde";
+  piece = 3;
+  failing = 2 ∷ [];
+  calls = calls;
+  faults = 0;
+  ended = ended;
+}
 
 first_read : read_count (supply 0 false) 8 ≡ 3
 first_read = refl
@@ -31,5 +38,8 @@ at_the_end : read_fails (supply 1 true) ≡ false
 at_the_end = refl
 
 -- a sink with room for one byte more writes one
-one_fits : put_writes (record { bytes = codes "ab"; room = 3; failing = []; calls = 1; faults = 0 }) (codes "cd") ≡ codes "c"
+abbrev store : Store
+store = record { bytes = codes "ab"; room = 3; failing = []; calls = 1; faults = 0 }
+
+one_fits : put_writes store (codes "cd") ≡ codes "c"
 one_fits = refl

@@ -1,12 +1,14 @@
 -- What reads and writes of a part do to known bytes.
-use Rattle.std.proofs.Common.{◌≡◌, ℕ, ◌+◌, ◌-◌, ◌<◌, ◌≤◌, min, List, [], ◌++◌, length, take, drop, None, Some, sym, ap, ◌∙◌, arith, append_assoc, length-drop, take_all}
+use Rattle.std.proofs.Common.{◌≡◌, ℕ, ◌+◌, ◌-◌, ◌<◌, ◌≤◌, min, List, [], ◌++◌, length, take, drop, None, Some}
+use Rattle.std.proofs.Common.{sym, ap, ◌∙◌, arith, append_assoc, length-drop, take_all}
 use Rattle.std.proofs.lemmas.List.{take-append-drop, take-take, drop-drop, drop_all}
 use Rattle.std.proofs.Math.Seq.{take-add}
 use Rattle.std.specs.declared.option.Option.{Option}
 use Rattle.std.specs.Io.KnownBytes.{Appends}
 
 -- the part of a slice from a place on
-pub rest_is : (slice bytes : List ℕ) (at : ℕ) → slice ≡ bytes → take (length slice - at) (drop at slice) ≡ drop at bytes
+pub rest_is : (slice bytes : List ℕ) (at : ℕ) → slice ≡ bytes
+    → take (length slice - at) (drop at slice) ≡ drop at bytes
 rest_is slice bytes at same =
     let whole : length (drop at slice) ≤ length slice - at = omega (arith, length-drop at slice) in
     take_all (length slice - at) (drop at slice) whole ∙ ap (drop at) same
@@ -19,15 +21,15 @@ front_copied bytes rest buffer at n same is =
     ∙ ap (λ l. l ++ drop n (drop at bytes)) (sym is) ∙ ap (λ l. take n buffer ++ l) (drop-drop n at bytes)
 
 -- where a buffer and its piece have room, nothing is copied only behind the end
-pub end_copied : (bytes rest : List ℕ) (at n piece room : ℕ) → rest ≡ drop at bytes → n ≡ min (min (length rest) piece) room
-    → 0 < piece → n ≡ 0 → 0 < room → drop (at + n) bytes ≡ []
+pub end_copied : (bytes rest : List ℕ) (at n piece room : ℕ) → rest ≡ drop at bytes
+    → n ≡ min (min (length rest) piece) room → 0 < piece → n ≡ 0 → 0 < room → drop (at + n) bytes ≡ []
 end_copied bytes rest at n piece room same count some none space =
     let over : length bytes ≤ at + n = omega (arith, ap length same, length-drop at bytes) in
     drop_all (at + n) bytes over
 
 -- the same where a piece is all that is left
-pub rest_copied : (bytes rest : List ℕ) (at n room : ℕ) → rest ≡ drop at bytes → n ≡ min (min (length rest) (length rest)) room
-    → n ≡ 0 → 0 < room → drop (at + n) bytes ≡ []
+pub rest_copied : (bytes rest : List ℕ) (at n room : ℕ) → rest ≡ drop at bytes
+    → n ≡ min (min (length rest) (length rest)) room → n ≡ 0 → 0 < room → drop (at + n) bytes ≡ []
 rest_copied bytes rest at n room same count none space =
     let over : length bytes ≤ at + n = omega (arith, ap length same, length-drop at bytes) in
     drop_all (at + n) bytes over

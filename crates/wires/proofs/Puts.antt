@@ -1,10 +1,12 @@
 -- Texts that are put one after another.
-use Rattle.std.proofs.Common.{◌≡◌, ℕ, ◌+◌, ◌-◌, ◌^◌, ◌≤◌, min, List, [], ◌++◌, length, take, Bool, None, Some, Ok, Err, Result, OnErr, IsTrue, refl, sym, ap, ◌∙◌, arith, add_assoc, append_assoc, subst, length-append, zero-add}
+use Rattle.std.proofs.Common.{◌≡◌, ℕ, ◌+◌, ◌≤◌, List, [], ◌++◌, length, take, Bool, None, Some, Ok, Err}
+use Rattle.std.proofs.Common.{Result, IsTrue, refl, sym, ap, ◌∙◌, arith, append_assoc, subst, length-append}
+use Rattle.std.proofs.Common.{zero-add}
 use Rattle.std.proofs.lemmas.List.{take-append-le, append-nil}
 use Rattle.std.proofs.Math.Seq.{take-append-add}
 use Rattle.std.specs.declared.option.Option.{Option}
 use Rattle.std.specs.Io.KnownBytes.{Appends}
-use Rattle.std.specs.Result.{IsErr, IsOk}
+use Rattle.std.specs.Result.{IsErr}
 use Rattle.wires.specs.Beside.{Beside}
 use Rattle.wires.specs.Bytes.{PutAppends}
 use Rattle.wires.specs.Causes.{HasCause, Rose}
@@ -66,13 +68,25 @@ puts_none written write_faults beside_sink takes sink = record {
   room = λ n h. subst (λ k. IsTrue (takes sink k)) (zero-add n) h;
 }
 
+-- a text may be written in another way
+pub puts_same : {S E : Type 0} {written : S → Option (List ℕ)} {write_faults : S → ℕ} {beside_sink : S → Beside}
+    {takes : S → ℕ → Bool} {old new : S} {result : Result (Unit {0}) E} {x y : List ℕ} → x ≡ y
+    → Puts written write_faults beside_sink takes old new result x
+    → Puts written write_faults beside_sink takes old new result y
+puts_same
+    {written = written} {write_faults = faults} {beside_sink = beside} {takes = takes} {old = old} {new = new}
+    {result = result} is p =
+    subst (λ text. Puts written faults beside takes old new result text) is p
+
 -- a whole text was put, and then another, whose answer stands
 pub puts_then : {S D E : Type 0} {written : S → Option (List ℕ)} {write_faults : S → ℕ} {beside_sink : S → Beside}
     {takes : S → ℕ → Bool} {old mid new : S} {u : Unit {0}} {result : Result (Unit {0}) E} (x y : List ℕ)
     → Puts {E = D} written write_faults beside_sink takes old mid (Ok u) x
     → Puts written write_faults beside_sink takes mid new result y
     → Puts written write_faults beside_sink takes old new result (x ++ y)
-puts_then {written = written} {write_faults = faults} {takes = takes} {old = old} {mid = mid} {new = new} {u = u} {result = result} x y p q =
+puts_then
+    {written = written} {write_faults = faults} {takes = takes} {old = old} {mid = mid} {new = new} {u = u}
+    {result = result} x y p q =
     let longer : (n : ℕ) → IsTrue (takes old (length (x ++ y) + n)) → IsTrue (takes mid (length y + n)) =
     λ n h. p.room (length y + n) (subst (λ k. IsTrue (takes old k)) (length_on x y n) h) in record {
       bytes = PutAppends-append (written old) (written mid) (written new) result x y p.bytes q.bytes;
@@ -90,7 +104,8 @@ pub puts_failed : {S D E : Type 0} {written : S → Option (List ℕ)} {write_fa
 puts_failed x y (Ok u) is p = absurd (cc)
 puts_failed {takes = takes} {old = old} x y (Err e) is p =
     let never : (n : ℕ) → IsTrue (takes old (length (x ++ y) + n)) → ⊥ =
-    λ n h. let ok = p.sure (length y + n) (subst (λ k. IsTrue (takes old k)) (length_on x y n) h) in absurd (cc) in record {
+    λ n h.
+    let ok = p.sure (length y + n) (subst (λ k. IsTrue (takes old k)) (length_on x y n) h) in absurd (cc) in record {
       bytes = PutAppends-front _ _ e x y p.bytes;
       cause = record { later = p.cause.later; failed = p.cause.failed };
       beside = p.beside;

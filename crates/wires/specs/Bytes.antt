@@ -1,5 +1,6 @@
 -- What a read and a put do to bytes.
-use Rattle.std.specs.Prelude.{ℕ, ◌≤◌, List, length, take, Bool, false, nat_eq, nat_lt, ◌&&◌, Result, Ok, Err, MatchResult}
+use Rattle.std.specs.Prelude.{ℕ, ◌≤◌, List, length, take, Bool, false, nat_eq, nat_lt, ◌&&◌, Result, Ok, Err}
+use Rattle.std.specs.Prelude.{MatchResult}
 use Rattle.std.specs.Io.KnownBytes.{Appends}
 use Rattle.std.specs.declared.option.Option.{Option}
 
@@ -11,4 +12,6 @@ answers_end (Err e) buffer = false
 -- the whole piece was written, and at a failure a front of it
 abbrev pub PutAppends : {E : Type 0} → Option (List ℕ) → Option (List ℕ) → Result (Unit {0}) E → List ℕ → Type 0
 PutAppends before now result piece =
-    MatchResult result (λ _. Appends before now piece) (λ _. (n : ℕ) × (n ≤ length piece) × Appends before now (take n piece))
+    MatchResult result
+    (λ _. Appends before now piece)
+    (λ _. (n : ℕ) × (n ≤ length piece) × Appends before now (take n piece))

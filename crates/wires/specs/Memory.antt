@@ -1,5 +1,6 @@
 -- Sources and sinks in memory as contracts see them, and what their next call does.
-use Rattle.std.specs.Prelude.{ℕ, ◌+◌, ◌-◌, ◌^◌, ◌==◌, ◌&&◌, ◌||◌, min, List, [], length, take, Bool, not, nat_lt, if◌then◌else◌}
+use Rattle.std.specs.Prelude.{ℕ, ◌+◌, ◌-◌, ◌^◌, ◌==◌, ◌&&◌, min, List, [], length, take, Bool, not}
+use Rattle.std.specs.Prelude.{if◌then◌else◌}
 use Rattle.std.specs.List.{list_any}
 
 -- a source: the bytes that are left, the most that a read gives, the numbers of the reads that fail,

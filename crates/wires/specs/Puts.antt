@@ -7,7 +7,7 @@ use Rattle.wires.specs.Bytes.{PutAppends}
 use Rattle.wires.specs.Causes.{HasCause}
 
 -- a text was put into a sink, in whatever pieces: all of it, or at a failure, which has its cause, a front of it;
--- nothing else of the sink changed, and where it surely takes the text and `n` more bytes the text was put, and it surely takes `n` more
+-- nothing else of the sink changed, and one that surely takes the text and `n` more bytes still takes `n`
 pub record Puts {S E : Type 0} (written : S → Option (List ℕ)) (write_faults : S → ℕ) (beside_sink : S → Beside)
     (takes : S → ℕ → Bool) (old new : S) (result : Result (Unit {0}) E) (text : List ℕ) : Type 0 where
   pub bytes : PutAppends (written old) (written new) result text

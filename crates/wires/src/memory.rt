@@ -1,12 +1,14 @@
 //! A source and a sink in memory, which fail at chosen calls.
-ghost use Rattle.std.specs.Prelude.{◌≡◌, ℕ, ◌+◌, ◌-◌, ◌<◌, ◌≤◌, ◌↔◌, ◌++◌, ◌==◌, ◌||◌, List, [], length, take, drop, min, true, false, IsTrue, IfOk, is_err, Some};
+ghost use Rattle.std.specs.Prelude.{◌≡◌, ℕ, ◌+◌, ◌-◌, ◌<◌, ◌≤◌, ◌↔◌, ◌++◌, ◌==◌, ◌||◌, List, [], length};
+ghost use Rattle.std.specs.Prelude.{take, drop, min, true, false, IsTrue, IfOk, is_err, Some};
 ghost use Rattle.std.specs.Result.{IsOk, IsErr};
 ghost use Rattle.std.specs.Io.{ReadsAtMost};
 ghost use Rattle.std.specs.Io.KnownBytes.{ReadConsumes};
 ghost use Rattle.wires.specs.Beside.{nothing_beside};
 ghost use Rattle.wires.specs.Bytes.{answers_end, PutAppends};
 ghost use Rattle.wires.specs.Causes.{HasCause};
-ghost use Rattle.wires.specs.Memory.{counted, is_named, is_refused, one_more, put_writes, read_count, read_fails};
+ghost use Rattle.wires.specs.Memory.{counted, is_named, is_refused, one_more, put_writes, read_count};
+ghost use Rattle.wires.specs.Memory.{read_fails};
 
 use crate::{Failed, Sink, Source};
 use cut_model::NoMemory;
@@ -155,7 +157,13 @@ impl MemorySink {
     /// counted from 1, whose numbers are in `failing` fail and write nothing. One that doesn't fit
     /// writes what fits and fails.
     pub fn make(alloc: Global, room: usize, failing: Vec<u32>) -> Result<MemorySink, NoMemory>
-        ensures { IfOk result (λ s. s ≡ record { bytes = []; room = room; failing = failing.items; calls = 0; faults = 0 }) }
+        ensures { IfOk result (λ s. s ≡ record {
+          bytes = [];
+          room = room;
+          failing = failing.items;
+          calls = 0;
+          faults = 0;
+        }) }
     {
         Ok(MemorySink {
             bytes: Vec::with_capacity(alloc, room)?,

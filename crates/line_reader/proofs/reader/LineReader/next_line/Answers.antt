@@ -1,6 +1,5 @@
 use Rattle.std.proofs.Common.{arith, ◌≡◌, ◌<◌, ◌+◌, ◌∙◌, length, refl, ap, sym, [], Ok, inl, inr, subst}
 use Rattle.line_reader.proofs.Steps.{begun, found, passed, read_on, passes, nothing, front_empty, front_some}
-use Rattle.line_reader.specs.Held.{Held}
 use Rattle.line_reader.specs.Passing.{Passes}
 use Rattle.line_reader.proofs.reader.LineReader.next_line.Goals as goal
 
@@ -39,8 +38,10 @@ returns-then-is_empty-clause-reads g c =
     let read : c.fill.new.self.taken ≡ c.take_part.new.self.taken + length c.fill.new.self.bytes =
     omega (arith, filled.count.0, filled.count.1) in
     let end = read_on c.fill.new.self w part.1 filled.bytes read in
-    let empty : end.before ≡ [] = front_empty end.before (sym end.front ∙ c.if-is_empty.ensures.empty refl) in (
-      subst (λ l. Passes c.args.self.now (g.S.Source.left c.args.source.now) c.fill.new.self (g.S.Source.left c.fill.new.source) l)
+    let empty : end.before ≡ [] = front_empty end.before (sym end.front ∙ c.if-is_empty.ensures.empty refl) in
+    let left = g.S.Source.left in (
+      subst
+          (λ l. Passes c.args.self.now (left c.args.source.now) c.fill.new.self (left c.fill.new.source) l)
           empty (passes end none),
       filled.end (ap Ok zero),
     )
@@ -81,4 +82,5 @@ returns-in-Err-clause-reads g c =
     let read : c.fill.new.self.taken ≡ c.take_part.new.self.taken + length c.fill.new.self.bytes =
     omega (arith, ap length none.0, none.1) in
     let end = read_on c.fill.new.self w part.1 c.in-Err.ensures.bytes read in
-    (end.before, passes end none.0, c.in-Err.ensures.failed, omega (arith, none.1, c.if-is_spent.ensures.not_spent refl))
+    let low = c.if-is_spent.ensures.not_spent refl in
+    (end.before, passes end none.0, c.in-Err.ensures.failed, omega (arith, none.1, low))

@@ -1,7 +1,7 @@
-use Rattle.std.proofs.Common.{ℕ, List, arith, ◌≡◌, ◌∙◌, ◌-◌, ◌+◌, ◌<◌, length, take, drop, sym, ap}
+use Rattle.std.proofs.Common.{ℕ, arith, ◌∙◌, ◌-◌, ◌+◌, ◌<◌, length, take, drop, sym, ap}
 use Rattle.std.proofs.lemmas.List.{length-take, length-drop}
 use Rattle.line_reader.proofs.Fronts.{held_around}
-use Rattle.line_reader.specs.Held.{Held, IsOpen}
+use Rattle.line_reader.specs.Held.{Held}
 use Rattle.line_reader.proofs.reader.LineReader.take_part.Goals as goal
 
 pub returns-in-Some-clause-found : goal.returns-in-Some-clause-found
@@ -10,7 +10,8 @@ returns-in-Some-clause-found c = λ _.
     let from = c.self.inside.from in
     let to = c.self.inside.to in
     let at = c.in-Some.at in
-    let within : at < length (take (to - from) (drop from bytes)) = rw c.deref.ensures.value at c.in-Some.ensures.place in
+    let within : at < length (take (to - from) (drop from bytes)) =
+    rw c.deref.ensures.value at c.in-Some.ensures.place in
     let inside : from + at < to = omega (arith, within, length-take {A = ℕ}, length-drop {A = ℕ}) in
     let is = rw c.deref.ensures.value at c.in-Some.ensures.feed in
     let whole = held_around bytes from to at inside within is in (
