@@ -5,12 +5,14 @@ use Rattle.network_text.specs.Texts.{draft_of, sheet_of}
 
 -- names are numbered in order of appearance, a remark and an empty line are passed over, and links
 -- between the same routers or of a router with itself stay
-small_text : sheet_of (draft_of (codes "# a remark" ∷ [] ∷ codes "link a b 2\r" ∷ codes "link b a 03" ∷ codes "link c c 0" ∷ []))
+small_text : sheet_of (draft_of (codes "# a remark" ∷ [] ∷ codes "link a b 2\r" ∷ codes "link b a 03"
+    ∷ codes "link c c 0" ∷ []))
     ≡ Some record {
       names = codes "a" ∷ codes "b" ∷ codes "c" ∷ [];
       net = record {
         routers = 3;
-        links = record { a = 0; b = 1; cap = 2 } ∷ record { a = 1; b = 0; cap = 3 } ∷ record { a = 2; b = 2; cap = 0 } ∷ [];
+        links = record { a = 0; b = 1; cap = 2 } ∷ record { a = 1; b = 0; cap = 3 }
+            ∷ record { a = 2; b = 2; cap = 0 } ∷ [];
       };
     }
 small_text = refl

@@ -1,5 +1,6 @@
 -- Sheets made of the names and links of a text.
-use Rattle.std.proofs.Common.{◌≡◌, ◌≢◌, ℕ, ◌<◌, ◌≤◌, List, [], ◌∷◌, Bool, true, false, ◌==◌, zero, suc, None, length, refl, arith}
+use Rattle.std.proofs.Common.{◌≡◌, ℕ, ◌<◌, List, [], ◌∷◌, Bool, false, ◌==◌, zero, suc, None}
+use Rattle.std.proofs.Common.{length, refl, arith}
 use Rattle.std.specs.List.{IsDistinct}
 use Rattle.std.proofs.lemmas.Map.Made.{AllPairs-from_IsDistinct}
 use Rattle.cut_model.specs.declared.network.Link.{Link}
@@ -16,7 +17,8 @@ some-link zero empty e f = absurd (cc)
 some-link (suc count) empty e f = omega arith
 
 -- with a link there is a router
-some-router : (names : List (List ℕ)) (links : List Link) → IsWithinLimits names links → 0 < length links → 0 < length names
+some-router : (names : List (List ℕ)) (links : List Link) → IsWithinLimits names links
+    → 0 < length links → 0 < length names
 some-router names [] small some = absurd (omega arith)
 some-router names (link ∷ links) small some =
     let joins : IsLink (length names) link = small.within 0 link (omega arith) in omega (arith, joins.a)
@@ -32,8 +34,8 @@ limits-whole names links small some = record {
 }
 
 -- no fault is found in them
-pub faultless : (names : List (List ℕ)) (links : List Link) (routers : ℕ) → IsWithinLimits names links → 0 < length links
-    → routers ≡ length names → net_fault routers links ≡ None
+pub faultless : (names : List (List ℕ)) (links : List Link) (routers : ℕ)
+    → IsWithinLimits names links → 0 < length links → routers ≡ length names → net_fault routers links ≡ None
 faultless names links routers small some same =
     rw same (faultless_if_in_limits (length names) links (limits-whole names links small some))
 

@@ -1,5 +1,6 @@
 -- Names are equal where their bytes are.
-use Rattle.std.proofs.Common.{◌≡◌, ℕ, ◌-◌, ◌++◌, List, Bool, true, false, ◌&&◌, replicate, length, take, refl, subst, rules, arith}
+use Rattle.std.proofs.Common.{◌≡◌, ℕ, ◌-◌, List, true, replicate, length, refl}
+use Rattle.std.proofs.Common.{subst, rules}
 use Rattle.std.specs.Bool.{Decides}
 use Rattle.std.proofs.Math.Dec.{eqb}
 use Rattle.std.proofs.Math.Path.{fun_ext}

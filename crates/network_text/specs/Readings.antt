@@ -1,5 +1,5 @@
 -- What a reader keeps.
-use Rattle.std.specs.Prelude.{◌≡◌, ℕ, ◌≤◌, List, Bool, true, false, length, All, IsTrue, Some, None}
+use Rattle.std.specs.Prelude.{ℕ, ◌≤◌, List, true, false, length, All, IsTrue, Some, None}
 use Rattle.text_forms.specs.Names.{is_name}
 use Rattle.cut_model.specs.Net.{IsLink}
 use Rattle.cut_model.specs.declared.network.Link.{Link}

@@ -3,20 +3,25 @@
 ghost use Rattle.std.specs.Prelude.{◌≡◌, [], Some, None, OnOk, IfOk, MatchOption};
 ghost use Rattle.std.specs.Arc.{arc_value};
 ghost use Rattle.text_forms.specs.Words.{line_words};
-ghost use Rattle.network_text.specs.Texts.{Draft, draft_after, is_beyond as beyond, sheet_of,
-    with_link, with_words};
+ghost use Rattle.network_text.specs.Texts.{
+  Draft,
+  draft_after,
+  is_beyond as beyond,
+  sheet_of,
+  with_link,
+  with_words,
+};
 ghost use Rattle.network_text.specs.Readings.{IsWithinLimits};
 
+use crate::name::Name;
+use crate::reader::TextFault;
+use crate::sheet::Sheet;
 use cut_model::{Link, Network};
 use indexmap::IndexSet;
 use std::alloc::{AllocFailed, Global};
 use std::marker::Model;
 use std::sync::Arc;
 use text_forms::{four_words, is_long, is_passed, parse_number};
-
-use crate::name::Name;
-use crate::reader::TextFault;
-use crate::sheet::Sheet;
 
 /// The greatest number of routers in a network.
 const MOST_ROUTERS: usize = 1024;
@@ -58,11 +63,9 @@ struct LinkLine {
 /// What the words of a link line say; none for any other line. A capacity past the type is given as
 /// its largest value.
 fn parse_link(line: &[u8]) -> Option<LinkLine>
-    ensures {
-        MatchOption result ((draft : Draft) → with_words draft (line_words line.now) ≡ None)
-            (λ link. (draft : Draft) → with_words draft (line_words line.now)
-                ≡ with_link draft link.first link.second (Some link.cap))
-    }
+    ensures { MatchOption result ((draft : Draft) → with_words draft (line_words line.now) ≡ None)
+        (λ link. (draft : Draft) → with_words draft (line_words line.now)
+        ≡ with_link draft link.first link.second (Some link.cap)) }
 {
     let (word, first, second, number) = four_words(line)?;
     if word != b"link".as_slice() {
@@ -127,13 +130,9 @@ impl Gathered {
 
     /// Names the routers of a link, the first first, and joins them.
     fn add_link(&mut self, link: LinkLine) -> Result<(), Stop>
-        ensures added {
-            OnOk result (with_link self.old link.first link.second (Some link.cap) ≡ Some self.new)
-        }
-        ensures fault {
-            result ≡ Err Stop.Fault
-                → with_link self.old link.first link.second (Some link.cap) ≡ None
-        }
+        ensures added { OnOk result (with_link self.old link.first link.second (Some link.cap) ≡ Some self.new) }
+        ensures fault { result ≡ Err Stop.Fault
+            → with_link self.old link.first link.second (Some link.cap) ≡ None }
     {
         let (a, _) = self.names.insert_full(link.first)?;
         let (b, _) = self.names.insert_full(link.second)?;

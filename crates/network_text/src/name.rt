@@ -29,8 +29,9 @@ impl Model for Name {
     ghost inverse = { λ bytes. record { bytes = padded bytes; len = length bytes } };
 
     ghost inverse_ok = { λ name h. λ i. record {
-        bytes = padded-front name.len name.bytes h i;
-        len = length-front name.len name.bytes h i } };
+      bytes = padded-front name.len name.bytes h i;
+      len = length-front name.len name.bytes h i;
+    } };
 }
 
 impl Name {

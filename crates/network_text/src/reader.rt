@@ -4,14 +4,13 @@ ghost use Rattle.std.specs.Prelude.{◌≡◌, [], Some, None, IfOk, IsTrue, IsF
 ghost use Rattle.text_forms.specs.Words.{is_end as end_line};
 ghost use Rattle.network_text.specs.Texts.{draft_after, sheet_of};
 
+use crate::gathered::{Gathered, Stop};
+use crate::sheet::Sheet;
 use cut_model::NoMemory;
 use std::alloc::{AllocFailed, Global};
 use std::marker::Model;
 use text_forms::is_end;
 use thiserror::Error;
-
-use crate::gathered::{Gathered, Stop};
-use crate::sheet::Sheet;
 
 /// Whether a text goes on behind a line.
 #[derive(Clone, Copy, PartialEq, Eq, Debug)]
@@ -78,10 +77,8 @@ impl Model for Reader {
 impl Reader {
     /// A reader before the first line.
     pub fn begin(alloc: Global) -> Result<Reader, NoMemory>
-        ensures {
-            IfOk result (λ reader. (reader.draft ≡ Some record { names = []; links = [] })
-                × IsFalse reader.lost)
-        }
+        ensures { IfOk result (λ reader. (reader.draft ≡ Some record { names = []; links = [] })
+            × IsFalse reader.lost) }
     {
         Ok(Reader {
             alloc,
@@ -97,10 +94,8 @@ impl Reader {
         ensures ended { result ≡ Fed.Ended → IsTrue (end_line line.now) × (self.new ≡ self.old) }
         ensures more { result ≡ Fed.More → IsFalse (end_line line.now) }
         ensures lost { result ≡ Fed.More → IsTrue self.old.lost → IsTrue self.new.lost }
-        ensures draft {
-            result ≡ Fed.More → IsFalse self.new.lost
-                → IsFalse self.old.lost × (self.new.draft ≡ draft_after self.old.draft line.now)
-        }
+        ensures draft { result ≡ Fed.More → IsFalse self.new.lost
+            → IsFalse self.old.lost × (self.new.draft ≡ draft_after self.old.draft line.now) }
     {
         if is_end(line) {
             return Fed::Ended;
@@ -122,15 +117,9 @@ impl Reader {
     /// `NotPlain` where a line was faulty or no line named a link, and `Memory` where memory was
     /// wanted, for a line or here.
     pub fn close(self) -> Result<Sheet, TextFault>
-        ensures sheet {
-            IfOk result (λ sheet. IsFalse self.lost × (sheet_of self.draft ≡ Some sheet))
-        }
-        ensures not_plain {
-            result ≡ Err TextFault.NotPlain → IsFalse self.lost × (sheet_of self.draft ≡ None)
-        }
-        ensures no_sheet {
-            IsFalse self.lost → sheet_of self.draft ≡ None → result ≡ Err TextFault.NotPlain
-        }
+        ensures sheet { IfOk result (λ sheet. IsFalse self.lost × (sheet_of self.draft ≡ Some sheet)) }
+        ensures not_plain { result ≡ Err TextFault.NotPlain → IsFalse self.lost × (sheet_of self.draft ≡ None) }
+        ensures no_sheet { IsFalse self.lost → sheet_of self.draft ≡ None → result ≡ Err TextFault.NotPlain }
     {
         let Reader {
             alloc,

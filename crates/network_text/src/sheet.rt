@@ -5,12 +5,11 @@ ghost use Rattle.std.specs.Arc.{arc_value};
 ghost use Rattle.indexmap.specs.IndexSet.{IsUnique};
 ghost use Rattle.network_text.specs.Sheets.{IsSheet, number_of as router_named};
 
+use crate::name::Name;
 use cut_model::Network;
 use indexmap::IndexSet;
 use std::marker::Model;
 use std::sync::Arc;
-
-use crate::name::Name;
 
 /// A network and the names of its routers. Contracts see a `SheetView`.
 #[derive(Drop)]

@@ -1,5 +1,7 @@
 -- Where the words of bytes begin and end.
-use Rattle.std.proofs.Common.{◌≡◌, ℕ, suc, ◌+◌, ◌-◌, ◌≤◌, List, [], ◌∷◌, ◌++◌, Bool, true, false, not, length, take, drop, refl, sym, ap, ◌∙◌, inl, inr, arith, nat_lt, Some, None, position, unwrap_or}
+use Rattle.std.proofs.Common.{◌≡◌, ℕ, suc, ◌+◌, ◌-◌, ◌≤◌, List, [], ◌∷◌, ◌++◌, Bool, true, false, not, length}
+use Rattle.std.proofs.Common.{take, drop, refl, sym, ap, ◌∙◌, inl, inr, arith, nat_lt, Some, None, position}
+use Rattle.std.proofs.Common.{unwrap_or}
 use Rattle.std.specs.List.{list_all, position_or_len}
 use Rattle.std.proofs.lemmas.Bool.{cases_Bool, lt-ltb, ltb-false}
 use Rattle.std.proofs.lemmas.List.{take-append-drop, take_rest, drop_all}
@@ -44,7 +46,8 @@ words-of_word b (c ∷ word) rest h stops =
       | inl e ↦ absurd (let k = rw e at h in cc)
       | inr e ↦ elim (cases_Bool (is_blank c)) [
         | inl f ↦ absurd (let k = rw (e, f) at h in cc)
-        | inr f ↦ words_of-joins b ((c ∷ word) ++ rest) e (rw f refl) ∙ ap (join_word b) (words-of_word c word rest (rw e at h) stops)
+        | inr f ↦ words_of-joins b ((c ∷ word) ++ rest) e (rw f refl)
+            ∙ ap (join_word b) (words-of_word c word rest (rw e at h) stops)
       ]
     ]
 
@@ -104,12 +107,15 @@ pub skipped-Some : (bytes : List ℕ) (start : ℕ) → Some start ≡ position 
 skipped-Some bytes start e = rw (take_rest bytes start, position-is is_letter bytes start e) (words-at_letter bytes)
 
 pub skipped_to_word : (bytes : List ℕ) (start : ℕ) → Some start ≡ position is_letter bytes
-    → goes_on (take (length bytes - start) (drop start bytes)) ≡ nat_lt 0 (length (take (length bytes - start) (drop start bytes)))
-skipped_to_word bytes start e = rw (take_rest bytes start, position-is is_letter bytes start e) (goes_on-at_letter bytes)
+    → goes_on (take (length bytes - start) (drop start bytes))
+    ≡ nat_lt 0 (length (take (length bytes - start) (drop start bytes)))
+skipped_to_word bytes start e =
+    rw (take_rest bytes start, position-is is_letter bytes start e) (goes_on-at_letter bytes)
 
 pub skipped-None : (bytes : List ℕ) → None ≡ position is_letter bytes → words_of bytes ≡ []
 skipped-None bytes e =
-    sym (words-at_letter bytes) ∙ ap words_of (drop_all (position_or_len is_letter bytes) bytes (no-position is_letter bytes e))
+    sym (words-at_letter bytes)
+    ∙ ap words_of (drop_all (position_or_len is_letter bytes) bytes (no-position is_letter bytes e))
 
 next-blank : (b : ℕ) (bytes : List ℕ) → is_blank b ≡ false
     → position_or_len is_blank (b ∷ bytes) ≡ suc (position_or_len is_blank bytes)
@@ -132,7 +138,8 @@ word-first (b ∷ bytes) h =
           let all : list_all is_letter (b ∷ take n bytes) ≡ true = rw e (none-before_first is_blank bytes) in
           let split = words-of_word b (take n bytes) (drop n bytes) all (goes_on-at_blank bytes) in
           let whole : b ∷ (take n bytes ++ drop n bytes) ≡ b ∷ bytes = ap (λ xs. b ∷ xs) (take-append-drop n bytes) in
-          word-up_to b bytes n (position_or_len is_blank (b ∷ bytes)) (ap words_of (sym whole) ∙ split) (next-blank b bytes e)
+          word-up_to b bytes n (position_or_len is_blank (b ∷ bytes)) (ap words_of (sym whole) ∙ split)
+          (next-blank b bytes e)
     ]
 
 position-or_len : (p : ℕ → Bool) (xs : List ℕ) → unwrap_or (position p xs) (length xs) ≡ position_or_len p xs

@@ -11,7 +11,8 @@ pub data Item : Type 0 where
   Bye : Item
 
 -- The whole items of lines. `None` stands between two items, and `Some lines` in a text of which these lines have come.
--- Empty lines and remarks between items are passed over. A text goes on to its END; one that the end of the input cuts off is whole too.
+-- Empty lines and remarks between items are passed over. A text goes on to its END;
+-- one that the end of the input cuts off is whole too.
 abbrev pub items_from : Bool → Option (List (List ℕ)) → List (List ℕ) → List Item
 items_from ended None [] = []
 items_from ended (Some text) [] = if ended then Load text false ∷ [] else []

@@ -1,5 +1,6 @@
 -- The lines of a stream of bytes.
-use Rattle.std.specs.Prelude.{◌≢◌, ℕ, List, [], ◌∷◌, Bool, All, ◌==◌, if◌then◌else◌, length, nat_lt, map, take}
+use Rattle.std.specs.Prelude.{◌≢◌, ℕ, List, [], ◌∷◌, Bool, All, ◌==◌, if◌then◌else◌, length, nat_lt, map}
+use Rattle.std.specs.Prelude.{take}
 
 -- no line feed is among the bytes
 abbrev pub NoFeed : List ℕ → Type 0

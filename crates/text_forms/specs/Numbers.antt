@@ -1,5 +1,6 @@
 -- Numbers as texts.
-use Rattle.std.specs.Prelude.{ℕ, ◌+◌, ◌*◌, ◌-◌, List, Bool, ◌&&◌, nat_lt, nat_le, length, if◌then◌else◌, Some, None, fold}
+use Rattle.std.specs.Prelude.{ℕ, ◌+◌, ◌*◌, ◌-◌, List, Bool, ◌&&◌, nat_lt, nat_le, length, if◌then◌else◌, Some}
+use Rattle.std.specs.Prelude.{None, fold}
 use Rattle.std.specs.List.{list_all}
 use Rattle.std.specs.declared.option.Option.{Option}
 
