@@ -19,7 +19,7 @@ refused_text version number =
 
 -- a space and the name of a router that is in the side
 abbrev pub name_piece : List ℕ → Bool → List ℕ
-name_piece name inside = if inside then codes " " ++ name else []
+name_piece name inside = if inside then concat (codes " " ∷ name ∷ []) else []
 
 -- a space and the name of each router of a side, in number order
 abbrev pub side_names : List (List ℕ) → List Bool → List ℕ

@@ -50,7 +50,7 @@ fn parse_cut(line: &[u8], sheet: &Sheet) -> Option<(u32, u32)>
         return None;
     }
     let (word, first, second) = three_words(line)?;
-    if word == b"CUT" {
+    if word == b"CUT".as_slice() {
         find_pair(sheet, first, second)
     } else {
         None

@@ -2,7 +2,7 @@ use Rattle.std.proofs.Common.{[], Bool, List, ℕ, Ok, ◌<◌, ◌≤◌, arith
 use Rattle.query_lang.specs.Replies.{name_piece, side_names}
 use Rattle.query_lang.proofs.NameTexts.{side_names-drop, side_names-drop_all}
 use Rattle.wires.specs.Puts.{Puts}
-use Rattle.wires.specs.declared.sources.Failed.{Failed}
+use Rattle.wires.specs.declared.faults.Failed.{Failed}
 use Rattle.wires.proofs.Puts.{puts_none, puts_then, puts_failed}
 use Rattle.query_lang.proofs.replies.write_names.Goals as goal
 
