@@ -115,6 +115,7 @@ pub fn cut_reply(buffer: &mut ReplyBuffer, version: u32, value: u64, sheet: &She
     requires { length side.now ≡ length sheet.now.names }
     ensures { buffer.new ≡ cut_text version value sheet.now.names side.now }
 {
+    prove!(sheet.net().routers() <= 1024);
     let gathered = &mut buffer.gathered;
     gathered.bytes.clear();
     write_cut(version, value, sheet, side, gathered).unwrap();

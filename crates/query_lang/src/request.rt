@@ -35,6 +35,7 @@ fn find_pair(sheet: &Sheet, first: &[u8], second: &[u8]) -> Option<(u32, u32)>
 {
     let a = sheet.number_of(first)?;
     let b = sheet.number_of(second)?;
+    prove!(a.max(b) < sheet.net().routers());
     if a == b { None } else { Some((a, b)) }
 }
 
