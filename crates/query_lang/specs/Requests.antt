@@ -1,5 +1,5 @@
 -- What a request line asks for.
-use Rattle.std.specs.Prelude.{◌≢◌, ℕ, ◌<◌, List, [], ◌∷◌, Bool, ◌==◌, if◌then◌else◌, codes, Some, None}
+use Rattle.std.specs.Prelude.{◌≢◌, ℕ, ◌<◌, List, [], ◌∷◌, ◌==◌, if◌then◌else◌, codes, Some, None}
 use Rattle.std.specs.Str.{bytes_eq}
 use Rattle.std.specs.declared.option.Option.{Option}
 use Rattle.text_forms.specs.Lines.{is_long}
@@ -38,8 +38,12 @@ request_of sheet line =
     else if is_bye line then Bye
     else cut_request (cut_of sheet line)
 
--- The two routers of a cut differ, and both are routers of the sheet's network.
+-- Two different routers of a sheet's network.
+abbrev pub AreEnds : SheetView → ℕ × ℕ → Type 0
+AreEnds sheet pair = (pair.0 ≢ pair.1) × (pair.0 < sheet.net.routers) × (pair.1 < sheet.net.routers)
+
+-- A cut is between two different routers of the sheet's network.
 abbrev pub HasEnds : Option SheetView → Request → Type 0
 HasEnds None (Cut a b) = ⊥
-HasEnds (Some sheet) (Cut a b) = (a ≢ b) × (a < sheet.net.routers) × (b < sheet.net.routers)
+HasEnds (Some sheet) (Cut a b) = AreEnds sheet (a, b)
 HasEnds sheet _ = Unit {0}

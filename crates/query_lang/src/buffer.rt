@@ -1,6 +1,6 @@
 //! The room in which a session gathers one reply before it is put.
-ghost use Rattle.std.specs.Prelude.{◌≡◌, ◌+◌, ◌≤◌, [], length, nat_le, vec_capacity, vec_len, IfOk, Some};
-ghost use Rattle.network_text.specs.Sheets.{IsSheet};
+ghost use Rattle.std.specs.Prelude.{◌≡◌, ◌+◌, ◌≤◌, [], Some, IfOk, length, nat_le};
+ghost use Rattle.std.specs.Prelude.{vec_capacity, vec_len};
 ghost use Rattle.query_lang.specs.Replies.{bye_text, cut_text, loaded_text, refused_text};
 ghost use Rattle.wires.specs.Beside.{nothing_beside};
 
@@ -54,8 +54,8 @@ impl Sink for Gathered {
     }
 }
 
-/// Room for one reply of up to 34,000 bytes, more than any reply has. Its memory is taken when it is
-/// made, and a reply that is gathered in it takes none. Contracts see the bytes.
+/// Room for one reply of up to 34,000 bytes, more than any reply has. Its memory is taken when it
+/// is made, and a reply that is gathered in it takes none. Contracts see the bytes.
 #[derive(Drop)]
 pub struct ReplyBuffer {
     gathered: Gathered,

@@ -1,6 +1,7 @@
 //! Replies, written to a sink.
 ghost use Rattle.std.specs.Prelude.{◌≡◌, ℕ, ◌<◌, List, [], Bool, length, slice_index_or, false};
-ghost use Rattle.query_lang.specs.Replies.{bye_text, cut_head, cut_text, loaded_text, name_piece, refused_text, side_names};
+ghost use Rattle.query_lang.specs.Replies.{bye_text, cut_head, cut_text, loaded_text, name_piece};
+ghost use Rattle.query_lang.specs.Replies.{refused_text, side_names};
 ghost use Rattle.wires.specs.Puts.{Puts};
 
 use cut_model::{Network, Side};

@@ -1,8 +1,8 @@
 //! Request lines.
-ghost use Rattle.std.specs.Prelude.{◌≡◌, ◌≢◌, ◌<◌, IfSome, Some};
+ghost use Rattle.std.specs.Prelude.{◌≡◌, IfSome, Some};
 ghost use Rattle.std.specs.Option.{option_copied};
 ghost use Rattle.network_text.specs.Sheets.{number_of};
-ghost use Rattle.query_lang.specs.Requests.{HasEnds, cut_of, pair_of, request_of};
+ghost use Rattle.query_lang.specs.Requests.{AreEnds, HasEnds, cut_of, pair_of, request_of};
 
 use network_text::Sheet;
 use text_forms::{is_bye, is_load, is_long, is_passed, three_words};
@@ -25,13 +25,9 @@ pub enum Request {
 
 /// The numbers of two routers by their names; none where a name is unknown, or both are the same.
 fn find_pair(sheet: &Sheet, first: &[u8], second: &[u8]) -> Option<(u32, u32)>
-    ensures value {
-        result ≡ pair_of (number_of sheet.now.names first.now) (number_of sheet.now.names second.now)
-    }
-    ensures ends {
-        IfSome result (λ pair. (pair.0 ≢ pair.1)
-            × (pair.0 < sheet.now.net.routers) × (pair.1 < sheet.now.net.routers))
-    }
+    ensures value { result
+        ≡ pair_of (number_of sheet.now.names first.now) (number_of sheet.now.names second.now) }
+    ensures ends { IfSome result (AreEnds sheet.now) }
 {
     let a = sheet.number_of(first)?;
     let b = sheet.number_of(second)?;
@@ -42,10 +38,7 @@ fn find_pair(sheet: &Sheet, first: &[u8], second: &[u8]) -> Option<(u32, u32)>
 /// The routers that a line asks to part; none where it asks for something else or has a fault.
 fn parse_cut(line: &[u8], sheet: &Sheet) -> Option<(u32, u32)>
     ensures value { result ≡ cut_of (Some sheet.now) line.now }
-    ensures ends {
-        IfSome result (λ pair. (pair.0 ≢ pair.1)
-            × (pair.0 < sheet.now.net.routers) × (pair.1 < sheet.now.net.routers))
-    }
+    ensures ends { IfSome result (AreEnds sheet.now) }
 {
     if is_long(line) {
         return None;

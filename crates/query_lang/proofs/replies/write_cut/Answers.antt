@@ -9,7 +9,7 @@ returns g c =
     let names = side_names c.args.sheet.now.names c.args.side.now in
     record {
       puts = puts_then head (names ++ codes "\n") c.in_ok-write_cut_head.ensures.puts
-        (puts_then names (codes "\n") c.in_ok-write_names.ensures.puts c.put_pieces.ensures.puts);
+          (puts_then names (codes "\n") c.in_ok-write_names.ensures.puts c.put_pieces.ensures.puts);
     }
 
 pub returns-in_err-write_cut_head : goal.returns-in_err-write_cut_head
@@ -17,7 +17,8 @@ returns-in_err-write_cut_head g c =
     let head = cut_head c.args.version c.args.value in
     let names = side_names c.args.sheet.now.names c.args.side.now in
     let end = c.from_residual in
-    record { puts = puts_failed head (names ++ codes "\n") end.result end.ensures.0 c.in_err-write_cut_head.ensures.puts }
+    let put = c.in_err-write_cut_head.ensures.puts in
+    record { puts = puts_failed head (names ++ codes "\n") end.result end.ensures.0 put }
 
 pub returns-in_err-write_names : goal.returns-in_err-write_names
 returns-in_err-write_names g c =
@@ -26,5 +27,5 @@ returns-in_err-write_names g c =
     let end = c.from_residual-in_err-write_names in
     record {
       puts = puts_then head (names ++ codes "\n") c.in_ok-write_cut_head.ensures.puts
-        (puts_failed names (codes "\n") end.result end.ensures.0 c.in_err-write_names.ensures.puts);
+          (puts_failed names (codes "\n") end.result end.ensures.0 c.in_err-write_names.ensures.puts);
     }

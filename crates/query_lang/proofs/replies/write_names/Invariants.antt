@@ -4,7 +4,7 @@ use Rattle.wires.specs.Puts.{Puts}
 use Rattle.wires.specs.declared.faults.Failed.{Failed}
 use Rattle.query_lang.proofs.replies.write_names.Given as goal
 
--- a put of the names that are left makes a put of all names
+-- A put of the names that are left makes a put of all names.
 abbrev pub invariant-loop-router : goal.invariant-loop-router
 invariant-loop-router g l =
     let sink = g.K.Sink in
