@@ -9,8 +9,8 @@
 mod buffer;
 mod replies;
 mod request;
-//#[cfg(test)]
-//mod tests;
+#[cfg(test)]
+mod tests;
 
 pub use buffer::{ReplyBuffer, bye_reply, cut_reply, loaded_reply, refusal_reply};
 pub use replies::{write_bye, write_cut, write_loaded, write_refusal};
