@@ -1,4 +1,5 @@
-//! Replies, written to a sink.
+//! Replies, written to a sink. Each is one line with its line feed, and begins with the version of the
+//! network that it speaks of, 0 where there is none. No call takes memory.
 ghost use Rattle.std.specs.Prelude.{◌≡◌, ℕ, ◌<◌, List, [], Bool, length, slice_index_or, false};
 ghost use Rattle.query_lang.specs.Replies.{bye_text, cut_head, cut_text, loaded_text, name_piece};
 ghost use Rattle.query_lang.specs.Replies.{refused_text, side_names};
@@ -10,6 +11,9 @@ use network_text::Sheet;
 use wires::{Failed, Sink, put_pieces};
 
 /// Writes the reply to an accepted network: its numbers of routers and links.
+///
+/// # Errors
+/// [`Failed`] where a put failed. A front of the reply was written then.
 pub fn write_loaded<K: Sink>(version: u32, net: &Network, sink: &mut K) -> Result<(), Failed>
     ensures puts { Puts K.written K.write_faults K.beside_sink K.takes sink.old sink.new result
         (loaded_text version net.now) }
@@ -32,6 +36,9 @@ pub fn write_loaded<K: Sink>(version: u32, net: &Network, sink: &mut K) -> Resul
 }
 
 /// Writes the reply to the line that ends a session.
+///
+/// # Errors
+/// [`Failed`] where a put failed. A front of the reply was written then.
 pub fn write_bye<K: Sink>(version: u32, sink: &mut K) -> Result<(), Failed>
     ensures puts { Puts K.written K.write_faults K.beside_sink K.takes sink.old sink.new result
         (bye_text version) }
@@ -41,6 +48,9 @@ pub fn write_bye<K: Sink>(version: u32, sink: &mut K) -> Result<(), Failed>
 }
 
 /// Writes the reply to a refused request, which tells why by a number.
+///
+/// # Errors
+/// [`Failed`] where a put failed. A front of the reply was written then.
 pub fn write_refusal<K: Sink>(version: u32, number: u32, sink: &mut K) -> Result<(), Failed>
     ensures puts { Puts K.written K.write_faults K.beside_sink K.takes sink.old sink.new result
         (refused_text version number) }
@@ -106,7 +116,10 @@ fn write_cut_head<K: Sink>(version: u32, value: u64, sink: &mut K) -> Result<(),
 }
 
 /// Writes the reply to a cut: its value, and the names of the routers of the side, in number order.
-/// It puts once a router of the side, and looks at each router once.
+/// It looks at each router once.
+///
+/// # Errors
+/// [`Failed`] where a put failed. A front of the reply was written then.
 pub fn write_cut<K: Sink>(
     version: u32,
     value: u64,

@@ -1,4 +1,4 @@
-//! Request lines.
+//! Request lines: what each asks for.
 ghost use Rattle.std.specs.Prelude.{◌≡◌, IfSome, Some};
 ghost use Rattle.std.specs.Option.{option_copied};
 ghost use Rattle.network_text.specs.Sheets.{number_of};
