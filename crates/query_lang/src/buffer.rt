@@ -1,0 +1,140 @@
+//! The room in which a session gathers one reply before it is put.
+ghost use Rattle.std.specs.Prelude.{◌≡◌, ◌+◌, ◌≤◌, [], Some, IfOk, length, nat_le};
+ghost use Rattle.std.specs.Prelude.{vec_capacity, vec_len};
+ghost use Rattle.query_lang.specs.Replies.{bye_text, cut_text, loaded_text, refused_text};
+ghost use Rattle.wires.specs.Beside.{nothing_beside};
+
+use crate::replies::{write_bye, write_cut, write_loaded, write_refusal};
+use cut_model::{Network, NoMemory, Side};
+use network_text::Sheet;
+use std::alloc::Global;
+use std::marker::Model;
+use wires::{Failed, Sink};
+
+/// The most bytes that are gathered. The longest reply is that to a cut of 1,024 routers with names
+/// of 32 bytes, which has at most 33,834.
+const ROOM: usize = 34_000;
+
+/// A sink in memory, which takes pieces up to its room and refuses a piece that doesn't fit whole.
+#[derive(Drop)]
+struct Gathered {
+    bytes: Vec<u8>,
+    faults: u64,
+    ghost reserved: { 34000 ≤ vec_capacity bytes },
+    ghost within: { vec_len bytes ≤ 34000 },
+}
+
+impl Gathered {
+    fn with_room(alloc: Global) -> Result<Gathered, NoMemory>
+        ensures { IfOk result (λ gathered. gathered.bytes.items ≡ []) }
+    {
+        Ok(Gathered {
+            bytes: Vec::with_capacity(alloc, ROOM)?,
+            faults: 0,
+        })
+    }
+}
+
+impl Sink for Gathered {
+    ghost written = { λ gathered. Some gathered.bytes.items };
+
+    ghost write_faults = { λ gathered. gathered.faults };
+
+    ghost beside_sink = { λ _. nothing_beside };
+
+    ghost takes = { λ gathered n. nat_le (length gathered.bytes.items + n) 34000 };
+
+    fn put(&mut self, bytes: &[u8]) -> Result<(), Failed> {
+        if bytes.len() > ROOM - self.bytes.len() {
+            self.faults = self.faults.saturating_add(1);
+            return Err(Failed);
+        }
+        self.bytes.extend_from_slice(bytes).unwrap();
+        Ok(())
+    }
+}
+
+/// Room for one reply of up to 34,000 bytes, more than any reply has. Its memory is taken when it
+/// is made, and a reply that is gathered in it takes none. Contracts see the bytes.
+#[derive(Drop)]
+pub struct ReplyBuffer {
+    gathered: Gathered,
+}
+
+impl Model for ReplyBuffer {
+    ghost use Rattle.std.specs.Prelude.{ℕ, List, ◌≤◌, length};
+
+    ghost Value = { List ℕ };
+
+    ghost view = { λ buffer. buffer.gathered.bytes.items };
+
+    ghost invariant = { λ buffer. length buffer.gathered.bytes.items ≤ 34000 };
+}
+
+impl ReplyBuffer {
+    /// An empty buffer.
+    ///
+    /// # Errors
+    /// [`NoMemory`] where the memory of its room can't be had.
+    pub fn make(alloc: Global) -> Result<ReplyBuffer, NoMemory>
+        ensures { IfOk result (λ buffer. buffer ≡ []) }
+    {
+        Ok(ReplyBuffer {
+            gathered: Gathered::with_room(alloc)?,
+        })
+    }
+
+    /// The bytes of the reply that was gathered last.
+    pub fn bytes(&self) -> &[u8]
+        ensures value { result.now ≡ self.now }
+        ensures few { length result.now ≤ 34000 }
+    {
+        self.gathered.bytes.as_slice()
+    }
+
+    /// Empties the buffer. Its room stays.
+    pub fn clear(&mut self)
+        ensures { self.new ≡ [] }
+    {
+        self.gathered.bytes.clear();
+    }
+}
+
+/// Gathers the reply to an accepted network, in place of what the buffer had.
+pub fn loaded_reply(buffer: &mut ReplyBuffer, version: u32, net: &Network)
+    ensures { buffer.new ≡ loaded_text version net.now }
+{
+    let gathered = &mut buffer.gathered;
+    gathered.bytes.clear();
+    write_loaded(version, net, gathered).unwrap();
+}
+
+/// Gathers the reply to a cut, in place of what the buffer had: its value, and the names of the
+/// routers of the side.
+pub fn cut_reply(buffer: &mut ReplyBuffer, version: u32, value: u64, sheet: &Sheet, side: &Side)
+    requires { length side.now ≡ length sheet.now.names }
+    ensures { buffer.new ≡ cut_text version value sheet.now.names side.now }
+{
+    prove!(sheet.net().routers() <= 1024);
+    let gathered = &mut buffer.gathered;
+    gathered.bytes.clear();
+    write_cut(version, value, sheet, side, gathered).unwrap();
+}
+
+/// Gathers the reply to the line that ends a session, in place of what the buffer had.
+pub fn bye_reply(buffer: &mut ReplyBuffer, version: u32)
+    ensures { buffer.new ≡ bye_text version }
+{
+    let gathered = &mut buffer.gathered;
+    gathered.bytes.clear();
+    write_bye(version, gathered).unwrap();
+}
+
+/// Gathers the reply to a refused request, in place of what the buffer had.
+pub fn refusal_reply(buffer: &mut ReplyBuffer, version: u32, number: u32)
+    ensures { buffer.new ≡ refused_text version number }
+{
+    let gathered = &mut buffer.gathered;
+    gathered.bytes.clear();
+    write_refusal(version, number, gathered).unwrap();
+}

@@ -1,0 +1,17 @@
+//! The request lines and the replies.
+//!
+//! The layer above parses a line and gets what the line asks for, exactly by the definitions in
+//! `specs/Requests.antt`, and writes replies whose bytes are the texts of `specs/Replies.antt`, to
+//! a sink or into a `ReplyBuffer`, in which each of them surely fits. Only the making of a buffer
+//! takes memory.
+#![tactic(auto)]
+
+mod buffer;
+mod replies;
+mod request;
+#[cfg(test)]
+mod tests;
+
+pub use buffer::{ReplyBuffer, bye_reply, cut_reply, loaded_reply, refusal_reply};
+pub use replies::{write_bye, write_cut, write_loaded, write_refusal};
+pub use request::{Request, parse_request};
