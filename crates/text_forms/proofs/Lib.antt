@@ -1,3 +1,4 @@
 pub mod Examples
 pub mod Returns
 pub mod Splitting
+pub mod LinesOf
