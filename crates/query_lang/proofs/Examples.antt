@@ -18,23 +18,23 @@ abbrev sheet : SheetView
 sheet = record { names = names; net = pair }
 
 loaded : loaded_text 1 pair ≡ codes "@1 LOADED routers 2 links 1\n"
-unfolding digits
+unfolding digits loaded_text
 loaded = refl
 
 cut_reply : cut_text 1 5 names (true ∷ false ∷ []) ≡ codes "@1 CUT 5 side a\n"
-unfolding digits
+unfolding digits cut_text
 cut_reply = refl
 
 both_named : cut_text 12 340 names (true ∷ true ∷ []) ≡ codes "@12 CUT 340 side a b\n"
-unfolding digits
+unfolding digits cut_text
 both_named = refl
 
 refusal : refused_text 0 9 ≡ codes "@0 NO 9\n"
-unfolding digits
+unfolding digits refused_text
 refusal = refl
 
 farewell : bye_text 1 ≡ codes "@1 BYE\n"
-unfolding digits
+unfolding digits bye_text
 farewell = refl
 
 remark : request_of (Some sheet) (codes "# note") ≡ Nothing

@@ -26,13 +26,16 @@ unfolding digits
 digits_64 n = length-digits_onto 64 10 false n []
 
 pub length-bye_text : (version : ℕ) → length (bye_text version) ≤ 34000
+unfolding bye_text
 length-bye_text version = simp length-append (omega (arith, digits_64 version))
 
 pub length-refused_text : (version number : ℕ) → length (refused_text version number) ≤ 34000
+unfolding refused_text
 length-refused_text version number =
     simp length-append (omega (arith, digits_64 version, digits_64 number))
 
 pub length-loaded_text : (version : ℕ) (net : Net) → length (loaded_text version net) ≤ 34000
+unfolding loaded_text
 length-loaded_text version net =
     simp length-append (omega (arith, digits_64 version, digits_64 net.routers, digits_64 (length net.links)))
 
@@ -61,6 +64,7 @@ length-side_names (name ∷ names) (inside ∷ side) named =
 
 pub length-cut_text : (version value : ℕ) (names : List (List ℕ)) (net : Net) (side : List Bool)
     → IsSheet names net → length (cut_text version value names side) ≤ 34000
+unfolding cut_text
 length-cut_text version value names net side sheet =
     let head = length-cut_head version value in
     let tail = length-side_names names side sheet.named in

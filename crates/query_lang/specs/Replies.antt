@@ -4,16 +4,16 @@ use Rattle.std.specs.List.{concat}
 use Rattle.cut_model.specs.Net.{Net}
 
 -- A network was accepted: its numbers of routers and links.
-abbrev pub loaded_text : ℕ → Net → List ℕ
+unfoldable pub loaded_text : ℕ → Net → List ℕ
 loaded_text version net = concat (codes "@" ∷ decimal version ∷ codes " LOADED routers " ∷ decimal net.routers
     ∷ codes " links " ∷ decimal (length net.links) ∷ codes "\n" ∷ [])
 
 -- The session is at its end.
-abbrev pub bye_text : ℕ → List ℕ
+unfoldable pub bye_text : ℕ → List ℕ
 bye_text version = concat (codes "@" ∷ decimal version ∷ codes " BYE\n" ∷ [])
 
 -- A request was refused, for the reason that the number stands for.
-abbrev pub refused_text : ℕ → ℕ → List ℕ
+unfoldable pub refused_text : ℕ → ℕ → List ℕ
 refused_text version number =
     concat (codes "@" ∷ decimal version ∷ codes " NO " ∷ decimal number ∷ codes "\n" ∷ [])
 
@@ -33,5 +33,5 @@ cut_head version value =
     concat (codes "@" ∷ decimal version ∷ codes " CUT " ∷ decimal value ∷ codes " side" ∷ [])
 
 -- A least cut: its value, and the names of the routers on the first router's side.
-abbrev pub cut_text : ℕ → ℕ → List (List ℕ) → List Bool → List ℕ
+unfoldable pub cut_text : ℕ → ℕ → List (List ℕ) → List Bool → List ℕ
 cut_text version value names side = cut_head version value ++ (side_names names side ++ codes "\n")

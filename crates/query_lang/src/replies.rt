@@ -14,6 +14,7 @@ use wires::{Failed, Sink, put_pieces};
 ///
 /// # Errors
 /// [`Failed`] where a put failed. A front of the reply was written then.
+#[tactic(auto, unfolding(crate::specs::Replies::loaded_text))]
 pub fn write_loaded<K: Sink>(version: u32, net: &Network, sink: &mut K) -> Result<(), Failed>
     ensures puts { Puts K.written K.write_faults K.beside_sink K.takes sink.old sink.new result
         (loaded_text version net.now) }
@@ -39,6 +40,7 @@ pub fn write_loaded<K: Sink>(version: u32, net: &Network, sink: &mut K) -> Resul
 ///
 /// # Errors
 /// [`Failed`] where a put failed. A front of the reply was written then.
+#[tactic(auto, unfolding(crate::specs::Replies::bye_text))]
 pub fn write_bye<K: Sink>(version: u32, sink: &mut K) -> Result<(), Failed>
     ensures puts { Puts K.written K.write_faults K.beside_sink K.takes sink.old sink.new result
         (bye_text version) }
@@ -51,6 +53,7 @@ pub fn write_bye<K: Sink>(version: u32, sink: &mut K) -> Result<(), Failed>
 ///
 /// # Errors
 /// [`Failed`] where a put failed. A front of the reply was written then.
+#[tactic(auto, unfolding(crate::specs::Replies::refused_text))]
 pub fn write_refusal<K: Sink>(version: u32, number: u32, sink: &mut K) -> Result<(), Failed>
     ensures puts { Puts K.written K.write_faults K.beside_sink K.takes sink.old sink.new result
         (refused_text version number) }
@@ -120,6 +123,7 @@ fn write_cut_head<K: Sink>(version: u32, value: u64, sink: &mut K) -> Result<(),
 ///
 /// # Errors
 /// [`Failed`] where a put failed. A front of the reply was written then.
+#[tactic(auto, unfolding(crate::specs::Replies::cut_text))]
 pub fn write_cut<K: Sink>(
     version: u32,
     value: u64,

@@ -1,9 +1,10 @@
 use Rattle.std.proofs.Common.{◌++◌, codes}
-use Rattle.query_lang.specs.Replies.{cut_head, side_names}
+use Rattle.query_lang.specs.Replies.{cut_head, cut_text, side_names}
 use Rattle.wires.proofs.Puts.{puts_then, puts_failed}
 use Rattle.query_lang.proofs.replies.write_cut.Goals as goal
 
 pub returns : goal.returns
+unfolding cut_text
 returns g c =
     let head = cut_head c.args.version c.args.value in
     let names = side_names c.args.sheet.now.names c.args.side.now in
@@ -13,6 +14,7 @@ returns g c =
     }
 
 pub returns-in_err-write_cut_head : goal.returns-in_err-write_cut_head
+unfolding cut_text
 returns-in_err-write_cut_head g c =
     let head = cut_head c.args.version c.args.value in
     let names = side_names c.args.sheet.now.names c.args.side.now in
@@ -21,6 +23,7 @@ returns-in_err-write_cut_head g c =
     record { puts = puts_failed head (names ++ codes "\n") end.result end.ensures.0 put }
 
 pub returns-in_err-write_names : goal.returns-in_err-write_names
+unfolding cut_text
 returns-in_err-write_names g c =
     let head = cut_head c.args.version c.args.value in
     let names = side_names c.args.sheet.now.names c.args.side.now in

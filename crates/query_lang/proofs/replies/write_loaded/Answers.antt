@@ -1,6 +1,8 @@
+use Rattle.query_lang.specs.Replies.{loaded_text}
 use Rattle.query_lang.proofs.replies.write_loaded.Goals as goal
 
 pub returns : goal.returns
+unfolding loaded_text
 returns g c =
     rw (
       ← c.routers.ensures.value,
