@@ -176,8 +176,8 @@ pub record IsPush (room_routers room_links routers links : ℕ) (first order hea
   pub room : get_or left twin 0 + amount < 2 ^ 64
   pub stored : IsStored room_routers room_links routers links first order heads head (after left arc twin amount)
   pub view :
-    view_of room_routers room_links routers links head (after left arc twin amount)
-    ≡ record (view_of room_routers room_links routers links head left) {
+      view_of room_routers room_links routers links head (after left arc twin amount)
+      ≡ record (view_of room_routers room_links routers links head left) {
         flow = pushed (flows_at left links) arc amount;
       }
 
@@ -257,21 +257,21 @@ push_is room_routers room_links routers links first order heads head left arc am
     let j : ℕ = arc / 2 in
     elim (there_or_back arc) [
       | inl there ↦
-        subst
-        (λ k. IsPush room_routers room_links routers links first order heads head left k (bit_xor k 1) amount) (sym there)
-        (subst
-        (λ t. IsPush room_routers room_links routers links first order heads head left (2 * (arc / 2)) t amount)
-        (sym (twin_there (arc / 2)))
-        (push_there room_routers room_links routers links first order heads head left (arc / 2) amount stored (omega arith)
-        (subst (λ k. amount ≤ get_or left k 0) there enough)))
+          subst
+          (λ k. IsPush room_routers room_links routers links first order heads head left k (bit_xor k 1) amount) (sym there)
+          (subst
+          (λ t. IsPush room_routers room_links routers links first order heads head left (2 * (arc / 2)) t amount)
+          (sym (twin_there (arc / 2)))
+          (push_there room_routers room_links routers links first order heads head left (arc / 2) amount stored (omega arith)
+          (subst (λ k. amount ≤ get_or left k 0) there enough)))
       | inr back ↦
-        subst
-        (λ k. IsPush room_routers room_links routers links first order heads head left k (bit_xor k 1) amount) (sym back)
-        (subst
-        (λ t. IsPush room_routers room_links routers links first order heads head left (2 * (arc / 2) + 1) t amount)
-        (sym (twin_back (arc / 2)))
-        (push_back room_routers room_links routers links first order heads head left (arc / 2) amount stored (omega arith)
-        (subst (λ k. amount ≤ get_or left k 0) back enough)))
+          subst
+          (λ k. IsPush room_routers room_links routers links first order heads head left k (bit_xor k 1) amount) (sym back)
+          (subst
+          (λ t. IsPush room_routers room_links routers links first order heads head left (2 * (arc / 2) + 1) t amount)
+          (sym (twin_back (arc / 2)))
+          (push_back room_routers room_links routers links first order heads head left (arc / 2) amount stored (omega arith)
+          (subst (λ k. amount ≤ get_or left k 0) back enough)))
     ]
 
 -- ---- a load
@@ -305,10 +305,10 @@ same_link : (head left left' : List ℕ) (links i : ℕ)
 same_link head left left' links i = elim (cases_lt i links) [
   | inl low ↦ rw (get_or-links_at head left links i low, get_or-links_at head left' links i low) (refl, refl)
   | inr high ↦
-    rw (
-      get_or_past (links_at head left links) i no_link (omega (arith, length-links_at head left links)),
-      get_or_past (links_at head left' links) i no_link (omega (arith, length-links_at head left' links)),
-    ) (refl, refl)
+      rw (
+        get_or_past (links_at head left links) i no_link (omega (arith, length-links_at head left links)),
+        get_or_past (links_at head left' links) i no_link (omega (arith, length-links_at head left' links)),
+      ) (refl, refl)
 ]
 
 same_tails : (head left left' : List ℕ) (links : ℕ) → tail_in (links_at head left links) ≡ tail_in (links_at head left' links)
@@ -350,10 +350,10 @@ pub loaded_index : (routers : ℕ) (links : List Link) (m : ℕ) (first order he
     → links_at head left' m ≡ links → IsIndexed (record { routers = routers; links = links }) first order heads
 loaded_index routers links m first order heads head left left' indexed number same router low =
     same_index (record { routers = routers; links = links_at head left m }) (record { routers = routers; links = links })
-        first order heads
-        (same_tails head left left' m ∙ ap tail_in same)
-        (same_heads head left left' m ∙ ap head_in same)
-        (length-links_at head left m ∙ number) router (indexed router low)
+    first order heads
+    (same_tails head left left' m ∙ ap tail_in same)
+    (same_heads head left left' m ∙ ap head_in same)
+    (length-links_at head left m ∙ number) router (indexed router low)
 
 -- the lists are of the lengths that they had
 pub record SameRooms (first order heads head left first' order' heads' head' left' : List ℕ) : Type 0 where
@@ -429,7 +429,7 @@ loaded room_routers room_links routers links first order heads head left old net
     let heads_here : HasHeads net.links head' = subst (λ ls. HasHeads ls head') el at_heads in
     let caps_here : HasCaps net.links left' = subst (λ ls. HasCaps ls left') el at_caps in
     let index_here : IsIndexed net first' order' heads' =
-        subst (λ (n : Net). IsIndexed n first' order' heads') (λ i. record { routers = er i; links = el i }) indexed in
+    subst (λ (n : Net). IsIndexed n first' order' heads') (λ i. record { routers = er i; links = el i }) indexed in
     let done : Load room_routers room_links net.routers (length net.links) first' order' heads' head' left' old net = record {
       stored = loaded_stored room_routers room_links routers links net.routers net.links first order heads head left
           first' order' heads' head' left' stored rooms (omega (arith, room.0)) (omega (arith, room.1)) limits
@@ -446,4 +446,4 @@ pub kept_index : (room_routers room_links routers links : ℕ) (first order head
     → IsIndexed (record { routers = routers; links = net_links }) first order heads
 kept_index room_routers room_links routers links first order heads head left left' net_links stored number at_heads at_caps =
     loaded_index routers net_links links first order heads head left left' stored.indexed number
-        (ap (links_at head left') number ∙ loaded_links net_links head left' at_heads at_caps)
+    (ap (links_at head left') number ∙ loaded_links net_links head left' at_heads at_caps)

@@ -138,8 +138,8 @@ pub record PushAt (room_routers room_links routers links : ℕ) (first order hea
   pub inside : arc < length left
   pub push : IsPush room_routers room_links routers links first order heads head left arc (bit_xor arc 1) amount
   pub view_is :
-    view_of room_routers room_links routers links head (after left arc (bit_xor arc 1) amount)
-    ≡ record view { flow = pushed view.flow arc amount }
+      view_of room_routers room_links routers links head (after left arc (bit_xor arc 1) amount)
+      ≡ record view { flow = pushed view.flow arc amount }
 
 pub push_at : (room_routers room_links routers links : ℕ) (first order heads head left : List ℕ) (view : ResidualView)
     → IsStored room_routers room_links routers links first order heads head left
@@ -152,7 +152,7 @@ push_at room_routers room_links routers links first order heads head left view s
     let counts = counts_are room_routers room_links routers links head left view is in
     let enough : amount ≤ get_or left arc 0 = omega (arith, ints, at.left_is, left_over) in
     let push = push_is room_routers room_links routers links first order heads head left arc amount stored
-        (omega (arith, counts.2)) enough in record {
+    (omega (arith, counts.2)) enough in record {
       enough = enough;
       inside = at.left_inside;
       push = push;
