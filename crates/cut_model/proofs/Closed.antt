@@ -7,6 +7,7 @@ use Rattle.cut_model.specs.declared.network.Link.{Link}
 use Rattle.cut_model.specs.Cuts.{RouterSet, differ}
 use Rattle.cut_model.specs.Flow.{IsFull, IsWithinCaps, Leads}
 
+-- what is not less than c is at least c
 not_less : (z : ℤ) (c : ℕ) → (z <ℤ pos c → ⊥) → pos c ≤ℤ z
 not_less z c h = grind (arith, ints)
 

@@ -1,5 +1,6 @@
 -- A flow is at most the cost of each set that parts its ends, and equal to it where it fills the set.
-use Rattle.std.proofs.Common.{◌≡◌, ◌≢◌, inl, inr, ℕ, zero, suc, ◌+◌, ◌<◌, ◌≤◌, Bool, true, false, cond, ◌&&◌, List, [], ◌∷◌, sym, ◌∙◌, ap, arith, refl, ltb}
+use Rattle.std.proofs.Common.{◌≡◌, ◌≢◌, inl, inr, ℕ, zero, suc, ◌+◌, ◌<◌, ◌≤◌, Bool, true}
+use Rattle.std.proofs.Common.{false, cond, ◌&&◌, List, [], ◌∷◌, sym, ◌∙◌, ap, arith, refl, ltb}
 use Rattle.std.specs.Prelude.{◌==◌, ℤ, pos, negsuc, ◌+ℤ◌, ◌-ℤ◌, ◌≤ℤ◌, nat_abs, sum_by}
 use Rattle.std.specs.List.{AllByRecursion}
 use Rattle.std.proofs.lemmas.Bool.{cases_Bool, cases_eq, cases_lt, lt-ltb, le-ltb, false≢true, eq-eqb, ne_eqb}
@@ -18,7 +19,8 @@ HasEndsBelow n link = (link.a < n) × (link.b < n)
 -- the ends of all links of a network are among its routers
 pub ends_within : (n : ℕ) (links : List Link) → IsInLimits n links → AllByRecursion (HasEndsBelow n) links
 ends_within n links limits =
-    recursion_from_All (HasEndsBelow n) links (λ k at_end small. ((limits.within k at_end small).a, (limits.within k at_end small).b))
+    recursion_from_All (HasEndsBelow n) links (λ k at_end small.
+    ((limits.within k at_end small).a, (limits.within k at_end small).b))
 
 -- ---- one end of one link
 
@@ -27,6 +29,7 @@ part : RouterSet → ℤ → ℕ → ℕ → ℤ
 part Y x a zero = pos 0
 part Y x a (suc n) = cond (Y n && (a == n)) x (pos 0) +ℤ part Y x a n
 
+-- one router more
 part-suc : (Y : RouterSet) (x : ℤ) (a n : ℕ) → part Y x a (suc n) ≡ (cond (Y n && (a == n)) x (pos 0) +ℤ part Y x a n)
 unfolding part
 part-suc Y x a n = refl
@@ -43,7 +46,8 @@ part-past Y x a (suc n) h =
 part_is : (Y : RouterSet) (x : ℤ) (a n : ℕ) → a < n → part Y x a n ≡ cond (Y a) x (pos 0)
 part_is Y x a zero h = absurd (omega arith)
 part_is Y x a (suc n) h = elim (cases_eq a n) [
-  | inl e ↦ part-suc Y x a n ∙ rw (e, eq-eqb n n refl, part-past Y x n n (omega arith)) (grind (arith, ints, cases_Bool (Y n)))
+  | inl e ↦ part-suc Y x a n ∙ rw (e, eq-eqb n n refl, part-past Y x n n (omega arith))
+      (grind (arith, ints, cases_Bool (Y n)))
   | inr ne ↦
       part-suc Y x a n
       ∙ rw (ne_eqb a n ne, part_is Y x a n (omega arith)) (grind (arith, ints, cases_Bool (Y n), cases_Bool (Y a)))
@@ -56,6 +60,7 @@ total : RouterSet → List Link → List ℤ → ℕ → ℤ
 total Y links flow zero = pos 0
 total Y links flow (suc n) = cond (Y n) (out n links flow) (pos 0) +ℤ total Y links flow n
 
+-- no router sends nothing, and one router more adds what it sends
 total-zero : (Y : RouterSet) (links : List Link) (flow : List ℤ) → total Y links flow zero ≡ pos 0
 unfolding total
 total-zero Y links flow = refl
@@ -75,14 +80,17 @@ regroup true false true x o pa pb t = omega (arith, ints)
 regroup true false false x o pa pb t = omega (arith, ints)
 regroup false a b x o pa pb t = omega (arith, ints)
 
+-- one link more adds its two ends' parts
 total-cons : (Y : RouterSet) (link : Link) (links : List Link) (x : ℤ) (flow : List ℤ) (n : ℕ)
     → total Y (link ∷ links) (x ∷ flow) n ≡ ((part Y x link.a n -ℤ part Y x link.b n) +ℤ total Y links flow n)
 unfolding total part
 total-cons Y link links x flow zero = refl
 total-cons Y link links x flow (suc n) =
     rw (total-cons Y link links x flow n)
-    (regroup (Y n) (link.a == n) (link.b == n) x (out n links flow) (part Y x link.a n) (part Y x link.b n) (total Y links flow n))
+    (regroup (Y n) (link.a == n) (link.b == n) x (out n links flow) (part Y x link.a n) (part Y x link.b n)
+    (total Y links flow n))
 
+-- where there is no link, nothing is sent
 total-nil : (Y : RouterSet) (flow : List ℤ) (n : ℕ) → total Y [] flow n ≡ pos 0
 unfolding total
 total-nil Y flow zero = refl
@@ -131,11 +139,15 @@ full_from Y n (link ∷ links) (x ∷ flow) ends within e =
     let one : carried Y link x ≤ℤ pos (across Y link) = carries (Y link.a) (Y link.b) x link.cap within.0 in
     let more : total Y links flow n ≤ℤ pos (sum_by (across Y) links) = total-le Y n links flow ends.1 within.1 in
     let both : (carried Y link x +ℤ total Y links flow n) ≡ pos (across Y link + sum_by (across Y) links) =
-    sym (total-link Y n link links x flow ends.0) ∙ e ∙ ap pos (sum_by-cons (across Y) link links) in
-    (omega (arith, ints, one, more, both), full_from Y n links flow ends.1 within.1 (omega (arith, ints, one, more, both)))
+    sym (total-link Y n link links x flow ends.0) ∙ e ∙ ap pos (sum_by-cons (across Y) link links) in (
+      omega (arith, ints, one, more, both),
+      full_from Y n links flow ends.1 within.1
+          (omega (arith, ints, one, more, both)),
+    )
 
 -- ---- a flow between two routers
 
+-- a number other than s does not change whether s is below the next
 ltb-past : (s m : ℕ) → m ≢ s → ltb s (suc m) ≡ ltb s m
 ltb-past s m ne = elim (cases_lt s m) [
   | inl l ↦ lt-ltb s (suc m) (omega arith) ∙ sym (lt-ltb s m l)
@@ -157,7 +169,8 @@ total_is Y links flow n s t k hs ht at_s at_r (suc m) h =
       | inr ne ↦ rw (before, ltb-past s m ne) (elim (cases_Bool (Y m)) [
         | inr out_of ↦ rw out_of (grind (arith, ints, cases_Bool (ltb s m)))
         | inl y ↦
-            rw (y, at_r m (omega arith) ne (λ e. false≢true (sym ht ∙ ap Y (sym e) ∙ y))) (grind (arith, ints, cases_Bool (ltb s m)))
+            rw (y, at_r m (omega arith) ne (λ e. false≢true (sym ht ∙ ap Y (sym e) ∙ y)))
+            (grind (arith, ints, cases_Bool (ltb s m)))
       ])
     ]
 
@@ -165,7 +178,8 @@ total_is Y links flow n s t k hs ht at_s at_r (suc m) h =
 total-flow : (net : Net) (s t : ℕ) (flow : List ℤ) (k : ℕ) → s < net.routers → IsFlow net s t flow k
     → (Y : RouterSet) → Y s ≡ true → Y t ≡ false → total Y net.links flow net.routers ≡ pos k
 total-flow net s t flow k small is Y hs ht =
-    total_is Y net.links flow net.routers s t k hs ht is.sent is.kept net.routers (omega arith) ∙ rw (lt-ltb s net.routers small) refl
+    total_is Y net.links flow net.routers s t k hs ht is.sent is.kept net.routers (omega arith)
+    ∙ rw (lt-ltb s net.routers small) refl
 
 -- weak duality: a flow is at most the cost of each set that holds s and lacks t
 pub flow_le : (net : Net) → IsInLimits net.routers net.links → (s t : ℕ) (flow : List ℤ) (k : ℕ) → s < net.routers
@@ -182,7 +196,13 @@ pub full_is : (net : Net) → IsInLimits net.routers net.links → (s t : ℕ) (
 unfolding cut_value
 full_is net limits s t flow k small is Y hs ht full =
     let sent = total-flow net s t flow k small is Y hs ht in
-    omega (arith, ints, sent, total-full Y net.routers net.links flow (ends_within net.routers net.links limits) is.within full)
+    omega (
+      arith,
+      ints,
+      sent,
+      total-full Y net.routers net.links flow
+          (ends_within net.routers net.links limits) is.within full,
+    )
 
 -- and a set that costs just the flow is filled by it
 pub full_if : (net : Net) → IsInLimits net.routers net.links → (s t : ℕ) (flow : List ℤ) (k : ℕ) → s < net.routers
@@ -194,7 +214,8 @@ full_if net limits s t flow k small is Y hs ht e =
 
 -- so a set that holds s and lacks t, and that a flow fills, is a least cut
 pub full_cut : (net : Net) → IsInLimits net.routers net.links → (s t : ℕ) (flow : List ℤ) (k : ℕ) → s < net.routers
-    → IsFlow net s t flow k → (X : RouterSet) → X s ≡ true → X t ≡ false → IsFull X net.links flow → IsLeastCut net s t X k
+    → IsFlow net s t flow k → (X : RouterSet) → X s ≡ true → X t ≡ false → IsFull X net.links flow
+    → IsLeastCut net s t X k
 full_cut net limits s t flow k small is X hs ht full = record {
   holds = hs;
   lacks = ht;

@@ -18,7 +18,8 @@ unfolding joins
 six = record {
   routers = 6;
   links =
-      joins 0 1 1 ∷ joins 0 2 7 ∷ joins 1 2 1 ∷ joins 1 3 3 ∷ joins 1 4 2 ∷ joins 2 4 4 ∷ joins 3 4 1 ∷ joins 3 5 6 ∷ joins 4 5 2 ∷ [];
+      joins 0 1 1 ∷ joins 0 2 7 ∷ joins 1 2 1 ∷ joins 1 3 3 ∷ joins 1 4 2 ∷ joins 2 4 4 ∷ joins 3 4 1 ∷ joins 3 5 6
+      ∷ joins 4 5 2 ∷ [];
 }
 
 side_of_one : cut_value six (set_of (false ∷ true ∷ false ∷ true ∷ true ∷ true ∷ [])) ≡ 6

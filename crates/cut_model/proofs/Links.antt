@@ -15,7 +15,8 @@ link_eq-Decides x y =
     Decides-like (link_eq x y)
     (λ same. λ i. record { a = same.0 i; b = same.1.0 i; cap = same.1.1 i })
     (λ e. (ap (λ (l : Link). l.a) e, (ap (λ (l : Link). l.b) e, ap (λ (l : Link). l.cap) e)))
-    (Decides-and (x.a == y.a) _ (Decides-eqb x.a y.a) (Decides-and (x.b == y.b) _ (Decides-eqb x.b y.b) (Decides-eqb x.cap y.cap)))
+    (Decides-and (x.a == y.a) _ (Decides-eqb x.a y.a)
+    (Decides-and (x.b == y.b) _ (Decides-eqb x.b y.b) (Decides-eqb x.cap y.cap)))
 
 -- networks with the same number of routers are equal where their links are
 pub same_net : (n m : ℕ) (xs ys : List Link) (one other : Net) (r : Bool) → record { routers = n; links = xs } ≡ one

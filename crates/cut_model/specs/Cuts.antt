@@ -1,5 +1,6 @@
 -- Sets of routers, what they cost, and least cuts.
-use Rattle.std.specs.Prelude.{◌≡◌, ℕ, ◌≤◌, Bool, true, false, not, List, sum_by, slice_index_or, IsTrue, IsFalse, if◌then◌else◌}
+use Rattle.std.specs.Prelude.{◌≡◌, ℕ, ◌≤◌, Bool, true, false, not}
+use Rattle.std.specs.Prelude.{List, sum_by, slice_index_or, IsTrue, IsFalse, if◌then◌else◌}
 use Rattle.cut_model.specs.declared.network.Link.{Link}
 use Rattle.cut_model.specs.Net.{Net}
 

@@ -1,9 +1,11 @@
 -- Networks and their limits.
-use Rattle.std.specs.Prelude.{ℕ, ◌<◌, ◌≤◌, Bool, ◌||◌, ◌==◌, nat_lt, nat_le, List, length, All, position, Some, None, if◌then◌else◌}
+use Rattle.std.specs.Prelude.{ℕ, ◌<◌, ◌≤◌, Bool, ◌||◌, ◌==◌, nat_lt, nat_le}
+use Rattle.std.specs.Prelude.{List, length, All, position, Some, None, if◌then◌else◌}
 use Rattle.std.specs.declared.option.Option.{Option}
 use Rattle.cut_model.specs.declared.network.Link.{Link}
 use Rattle.cut_model.specs.declared.network.NetFault.{NetFault}
-use Rattle.cut_model.specs.declared.network.NetFault.TheVariants.{NoRouter, TooManyRouters, TooManyLinks, EndOutside, CapTooLarge}
+use Rattle.cut_model.specs.declared.network.NetFault.TheVariants.{NoRouter, TooManyRouters, TooManyLinks}
+use Rattle.cut_model.specs.declared.network.NetFault.TheVariants.{EndOutside, CapTooLarge}
 
 -- A network is a number of routers and a list of links.
 pub record Net : Type 0 where

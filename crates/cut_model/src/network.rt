@@ -1,5 +1,6 @@
 //! Networks of routers and links, within their limits.
-ghost use Rattle.std.specs.Prelude.{◌≡◌, ℕ, ◌<◌, ◌≤◌, ◌↔◌, All, IfErr, IfOk, IfSome, OnOk, IsTrue, Some, None, length, position};
+ghost use Rattle.std.specs.Prelude.{◌≡◌, ℕ, ◌<◌, ◌≤◌, ◌↔◌, All, IfErr, IfOk};
+ghost use Rattle.std.specs.Prelude.{IfSome, OnOk, IsTrue, Some, None, length, position};
 ghost use Rattle.cut_model.specs.Net.{IsInLimits, IsLink, has_end_outside, has_large_cap, net_fault};
 
 use std::marker::Model;

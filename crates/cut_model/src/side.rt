@@ -1,5 +1,6 @@
 //! Sets of routers.
-ghost use Rattle.std.specs.Prelude.{◌≡◌, ◌<◌, ◌≤◌, ◌↔◌, true, false, length, replicate, slice_index_or, slice_set, IsTrue};
+ghost use Rattle.std.specs.Prelude.{◌≡◌, ◌<◌, ◌≤◌, ◌↔◌, true, false};
+ghost use Rattle.std.specs.Prelude.{length, replicate, slice_index_or, slice_set, IsTrue};
 ghost use Rattle.std.specs.List.{count_by};
 
 use std::marker::Model;
@@ -27,7 +28,8 @@ impl Model for Side {
 
     ghost inverse = { λ v. record { words = words_of v; size = length v } };
 
-    ghost inverse_ok = { λ s h. λ i. record { words = words_of-bits_of s.words s.size h i; size = length-bits_of s.words s.size i } };
+    ghost inverse_ok = { λ s h. λ i.
+        record { words = words_of-bits_of s.words s.size h i; size = length-bits_of s.words s.size i } };
 }
 
 impl Side {

@@ -1,7 +1,7 @@
 //! A counter that contracts alone see.
 ghost use Rattle.std.specs.Prelude.{◌≡◌, ℕ, ◌+◌, ◌<◌};
 
-use std::marker::Model;
+use std::marker::{Brand, Model};
 use std::sync::ledger::{Blank, Book, Ledger, Share};
 
 /// How many steps were taken, as a number. It has no bytes at run time and its calls leave no code,
@@ -11,6 +11,8 @@ pub struct Steps<L: Ledger> {
     book: Book<L>,
     share: Share<L>,
 }
+
+const _: () = prove!(size_of::<Steps<Brand>>() == 0);
 
 impl<L: Ledger> Model for Steps<L> {
     ghost Value = { ℕ };

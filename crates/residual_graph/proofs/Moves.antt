@@ -1,12 +1,14 @@
 -- What a push and a load make of the stored lists.
-use Rattle.std.proofs.Common.{◌≡◌, ◌≢◌, ℕ, ◌+◌, ◌-◌, ◌*◌, ◌/◌, ◌%◌, ◌^◌, ◌<◌, ◌≤◌, List, length, get_or, set, map, replicate, cond, ◌++◌, take, refl, sym, ap, ◌∙◌, subst, inl, inr, arith}
+use Rattle.std.proofs.Common.{◌≡◌, ◌≢◌, ℕ, ◌+◌, ◌-◌, ◌*◌, ◌/◌, ◌%◌, ◌^◌, ◌<◌, ◌≤◌, List, length, get_or}
+use Rattle.std.proofs.Common.{set, map, replicate, cond, ◌++◌, take, refl, sym, ap, ◌∙◌, subst, inl, inr, arith}
 use Rattle.std.specs.Prelude.{ℤ, pos, neg_ℤ, ◌+ℤ◌, ◌-ℤ◌, ◌≤ℤ◌, ◌==◌}
 use Rattle.std.specs.List.{range_with_len, filter}
 use Rattle.std.specs.Int.RustNames.{bit_xor}
 use Rattle.std.specs.Int.Bits.{xor_zero_r}
 use Rattle.std.proofs.lemmas.Bool.{cases_eq, cases_lt}
 use Rattle.std.proofs.lemmas.Int.{ints}
-use Rattle.std.proofs.lemmas.List.{get_or-set_same, get_or-set_other, get_or-replicate, length-replicate, length-set, ext_get_or, get_or_past, take-append-le, take_all}
+use Rattle.std.proofs.lemmas.List.{get_or-set_same, get_or-set_other, get_or-replicate, length-replicate, length-set}
+use Rattle.std.proofs.lemmas.List.{ext_get_or, get_or_past, take-append-le, take_all}
 use Rattle.std.proofs.lemmas.Nat.{xor_block}
 use mathlib.Core.Path.{fun_ext}
 use Rattle.cut_model.specs.declared.network.Link.{Link}
@@ -16,7 +18,8 @@ use Rattle.residual_graph.specs.Fills.{HasCaps, HasHeads, after}
 use Rattle.residual_graph.specs.Indexed.{IsGroup, IsIndexed}
 use Rattle.residual_graph.specs.Storage.{cap_at, link_at, links_at, flow_at, flows_at, view_of, IsStored}
 use Rattle.residual_graph.specs.View.{ResidualView, pushed}
-use Rattle.residual_graph.proofs.Views.{rooms_are, there_or_back, length-links_at, get_or-links_at, length-flows_at, get_or-flows_at}
+use Rattle.residual_graph.proofs.Views.{rooms_are, there_or_back, length-links_at}
+use Rattle.residual_graph.proofs.Views.{get_or-links_at, length-flows_at, get_or-flows_at}
 
 -- ---- twins
 
@@ -47,7 +50,8 @@ same_pairs : (left left' : List ℕ) (j there back : ℕ) → IsMoved left left'
 same_pairs left left' j there back moved i = elim (cases_eq i j) [
   | inl e ↦
       subst
-      (λ k. get_or left' (2 * k) 0 + get_or left' (2 * k + 1) 0 ≡ get_or left (2 * k) 0 + get_or left (2 * k + 1) 0) (sym e)
+      (λ k. get_or left' (2 * k) 0 + get_or left' (2 * k + 1) 0 ≡ get_or left (2 * k) 0 + get_or left (2 * k + 1) 0)
+      (sym e)
       (omega (arith, moved.there_is, moved.back_is, moved.both))
   | inr ne ↦
       omega (
@@ -57,7 +61,8 @@ same_pairs left left' j there back moved i = elim (cases_eq i j) [
       )
 ]
 
-same_caps : (left left' : List ℕ) (j there back : ℕ) → IsMoved left left' j there back → (i : ℕ) → cap_at left' i ≡ cap_at left i
+same_caps : (left left' : List ℕ) (j there back : ℕ) → IsMoved left left' j there back → (i : ℕ)
+    → cap_at left' i ≡ cap_at left i
 same_caps left left' j there back moved i = ap (λ n. n / 2) (same_pairs left left' j there back moved i)
 
 pub same_links : (head left left' : List ℕ) (links j there back : ℕ) → IsMoved left left' j there back
@@ -65,10 +70,12 @@ pub same_links : (head left left' : List ℕ) (links j there back : ℕ) → IsM
 unfolding links_at
 same_links head left left' links j there back moved =
     let each : (i : ℕ) → link_at head left' i ≡ link_at head left i = λ i.
-    ap (λ c. record { a = get_or head (2 * i + 1) 0; b = get_or head (2 * i) 0; cap = c }) (same_caps left left' j there back moved i) in
+    ap (λ c. record { a = get_or head (2 * i + 1) 0; b = get_or head (2 * i) 0; cap = c })
+    (same_caps left left' j there back moved i) in
     ap (λ (f : ℕ → Link). map f (range_with_len 0 links)) (fun_ext each)
 
-pub moved_stored : (room_routers room_links routers links : ℕ) (first order heads head left left' : List ℕ) (j there back : ℕ)
+pub moved_stored : (room_routers room_links routers links : ℕ) (first order heads head left left' : List ℕ)
+    (j there back : ℕ)
     → IsMoved left left' j there back → IsStored room_routers room_links routers links first order heads head left
     → IsStored room_routers room_links routers links first order heads head left'
 moved_stored room_routers room_links routers links first order heads head left left' j there back moved stored =
@@ -84,8 +91,14 @@ moved_stored room_routers room_links routers links first order heads head left l
       left_room = moved.size ∙ stored.left_room;
       limits = subst (IsInLimits routers) same stored.limits;
       pairs = λ i low.
-          omega (arith, same_pairs left left' j there back moved i, same_caps left left' j there back moved i, stored.pairs i low);
-      indexed = subst (λ (ls : List Link). IsIndexed (record { routers = routers; links = ls }) first order heads) same stored.indexed;
+          omega (
+            arith,
+            same_pairs left left' j there back moved i,
+            same_caps left left' j there back moved i,
+            stored.pairs i low,
+          );
+      indexed = subst (λ (ls : List Link). IsIndexed
+          (record { routers = routers; links = ls }) first order heads) same stored.indexed;
     }
 
 moved_flows : (left left' : List ℕ) (links j there back : ℕ) → IsMoved left left' j there back → j < links
@@ -98,7 +111,8 @@ moved_flows left left' links j there back moved low =
     let inside : i < links = omega (arith, length-flows_at left' links) in
     get_or-flows_at left' links i inside ∙ elim (cases_eq i j) [
       | inl e ↦
-          subst (λ k. flow_at left' k ≡ get_or (set (flows_at left links) j (pos (cap_at left j) -ℤ pos there)) k (pos 0)) (sym e)
+          subst (λ k. flow_at left' k ≡ get_or (set (flows_at left links) j (pos (cap_at left j) -ℤ pos there)) k
+          (pos 0)) (sym e)
           ((λ i. pos (same_caps left left' j there back moved j i) -ℤ pos (moved.there_is i))
           ∙ sym (get_or-set_same (flows_at left links) j (pos (cap_at left j) -ℤ pos there) (pos 0)
           (omega (arith, length-flows_at left links))))
@@ -131,16 +145,19 @@ moved_view room_routers room_links routers links head left left' j there back mo
 
 -- along the arc there, and along the arc back
 pub after_there : (left : List ℕ) (j amount : ℕ) → 2 * j + 1 < length left → amount ≤ get_or left (2 * j) 0
-    → IsMoved left (after left (2 * j) (2 * j + 1) amount) j (get_or left (2 * j) 0 - amount) (get_or left (2 * j + 1) 0 + amount)
+    → IsMoved left (after left (2 * j) (2 * j + 1) amount) j (get_or left (2 * j) 0 - amount)
+    (get_or left (2 * j + 1) 0 + amount)
 after_there left j amount within enough =
     let size = length-set left (2 * j) (get_or left (2 * j) 0 - amount) in record {
-      size = length-set (set left (2 * j) (get_or left (2 * j) 0 - amount)) (2 * j + 1) (get_or left (2 * j + 1) 0 + amount) ∙ size;
+      size = length-set (set left (2 * j) (get_or left (2 * j) 0 - amount)) (2 * j + 1)
+          (get_or left (2 * j + 1) 0 + amount) ∙ size;
       there_is =
           get_or-set_other (set left (2 * j) (get_or left (2 * j) 0 - amount)) (2 * j + 1) (2 * j)
           (get_or left (2 * j + 1) 0 + amount) 0 (λ e. omega arith)
           ∙ get_or-set_same left (2 * j) (get_or left (2 * j) 0 - amount) 0 (omega arith);
       back_is =
-          get_or-set_same (set left (2 * j) (get_or left (2 * j) 0 - amount)) (2 * j + 1) (get_or left (2 * j + 1) 0 + amount) 0
+          get_or-set_same (set left (2 * j) (get_or left (2 * j) 0 - amount)) (2 * j + 1)
+          (get_or left (2 * j + 1) 0 + amount) 0
           (omega (arith, size));
       both = omega arith;
       others = λ k not_there not_back.
@@ -150,12 +167,15 @@ after_there left j amount within enough =
     }
 
 pub after_back : (left : List ℕ) (j amount : ℕ) → 2 * j + 1 < length left → amount ≤ get_or left (2 * j + 1) 0
-    → IsMoved left (after left (2 * j + 1) (2 * j) amount) j (get_or left (2 * j) 0 + amount) (get_or left (2 * j + 1) 0 - amount)
+    → IsMoved left (after left (2 * j + 1) (2 * j) amount) j (get_or left (2 * j) 0 + amount)
+    (get_or left (2 * j + 1) 0 - amount)
 after_back left j amount within enough =
     let size = length-set left (2 * j + 1) (get_or left (2 * j + 1) 0 - amount) in record {
-      size = length-set (set left (2 * j + 1) (get_or left (2 * j + 1) 0 - amount)) (2 * j) (get_or left (2 * j) 0 + amount) ∙ size;
+      size = length-set (set left (2 * j + 1) (get_or left (2 * j + 1) 0 - amount)) (2 * j)
+          (get_or left (2 * j) 0 + amount) ∙ size;
       there_is =
-          get_or-set_same (set left (2 * j + 1) (get_or left (2 * j + 1) 0 - amount)) (2 * j) (get_or left (2 * j) 0 + amount) 0
+          get_or-set_same (set left (2 * j + 1) (get_or left (2 * j + 1) 0 - amount)) (2 * j)
+          (get_or left (2 * j) 0 + amount) 0
           (omega (arith, size));
       back_is =
           get_or-set_other (set left (2 * j + 1) (get_or left (2 * j + 1) 0 - amount)) (2 * j) (2 * j + 1)
@@ -169,15 +189,16 @@ after_back left j amount within enough =
     }
 
 -- What a push of an amount along an arc needs, and what it makes.
-pub record IsPush (room_routers room_links routers links : ℕ) (first order heads head left : List ℕ) (arc twin amount : ℕ)
+pub record IsPush (room_routers room_links routers links : ℕ) (first order heads head left : List ℕ)
+    (arc twin amount : ℕ)
     : Type 0 where
   pub apart : arc ≢ twin
   pub inside : twin < length left
   pub room : get_or left twin 0 + amount < 2 ^ 64
   pub stored : IsStored room_routers room_links routers links first order heads head (after left arc twin amount)
   pub view :
-    view_of room_routers room_links routers links head (after left arc twin amount)
-    ≡ record (view_of room_routers room_links routers links head left) {
+      view_of room_routers room_links routers links head (after left arc twin amount)
+      ≡ record (view_of room_routers room_links routers links head left) {
         flow = pushed (flows_at left links) arc amount;
       }
 
@@ -215,7 +236,8 @@ pushed-back left links j amount low =
     more_back c x amount = omega (arith, ints)
 
 push_there : (room_routers room_links routers links : ℕ) (first order heads head left : List ℕ) (j amount : ℕ)
-    → IsStored room_routers room_links routers links first order heads head left → j < links → amount ≤ get_or left (2 * j) 0
+    → IsStored room_routers room_links routers links first order heads head left → j < links
+    → amount ≤ get_or left (2 * j) 0
     → IsPush room_routers room_links routers links first order heads head left (2 * j) (2 * j + 1) amount
 push_there room_routers room_links routers links first order heads head left j amount stored low enough =
     let within : 2 * j + 1 < length left = omega (arith, stored.left_room, stored.links_fit) in
@@ -257,21 +279,25 @@ push_is room_routers room_links routers links first order heads head left arc am
     let j : ℕ = arc / 2 in
     elim (there_or_back arc) [
       | inl there ↦
-        subst
-        (λ k. IsPush room_routers room_links routers links first order heads head left k (bit_xor k 1) amount) (sym there)
-        (subst
-        (λ t. IsPush room_routers room_links routers links first order heads head left (2 * (arc / 2)) t amount)
-        (sym (twin_there (arc / 2)))
-        (push_there room_routers room_links routers links first order heads head left (arc / 2) amount stored (omega arith)
-        (subst (λ k. amount ≤ get_or left k 0) there enough)))
+          subst
+          (λ k. IsPush room_routers room_links routers links first order heads head left k (bit_xor k 1) amount)
+          (sym there)
+          (subst
+          (λ t. IsPush room_routers room_links routers links first order heads head left (2 * (arc / 2)) t amount)
+          (sym (twin_there (arc / 2)))
+          (push_there room_routers room_links routers links first order heads head left (arc / 2) amount stored
+          (omega arith)
+          (subst (λ k. amount ≤ get_or left k 0) there enough)))
       | inr back ↦
-        subst
-        (λ k. IsPush room_routers room_links routers links first order heads head left k (bit_xor k 1) amount) (sym back)
-        (subst
-        (λ t. IsPush room_routers room_links routers links first order heads head left (2 * (arc / 2) + 1) t amount)
-        (sym (twin_back (arc / 2)))
-        (push_back room_routers room_links routers links first order heads head left (arc / 2) amount stored (omega arith)
-        (subst (λ k. amount ≤ get_or left k 0) back enough)))
+          subst
+          (λ k. IsPush room_routers room_links routers links first order heads head left k (bit_xor k 1) amount)
+          (sym back)
+          (subst
+          (λ t. IsPush room_routers room_links routers links first order heads head left (2 * (arc / 2) + 1) t amount)
+          (sym (twin_back (arc / 2)))
+          (push_back room_routers room_links routers links first order heads head left (arc / 2) amount stored
+          (omega arith)
+          (subst (λ k. amount ≤ get_or left k 0) back enough)))
     ]
 
 -- ---- a load
@@ -305,21 +331,25 @@ same_link : (head left left' : List ℕ) (links i : ℕ)
 same_link head left left' links i = elim (cases_lt i links) [
   | inl low ↦ rw (get_or-links_at head left links i low, get_or-links_at head left' links i low) (refl, refl)
   | inr high ↦
-    rw (
-      get_or_past (links_at head left links) i no_link (omega (arith, length-links_at head left links)),
-      get_or_past (links_at head left' links) i no_link (omega (arith, length-links_at head left' links)),
-    ) (refl, refl)
+      rw (
+        get_or_past (links_at head left links) i no_link (omega (arith, length-links_at head left links)),
+        get_or_past (links_at head left' links) i no_link (omega (arith, length-links_at head left' links)),
+      ) (refl, refl)
 ]
 
-same_tails : (head left left' : List ℕ) (links : ℕ) → tail_in (links_at head left links) ≡ tail_in (links_at head left' links)
+same_tails : (head left left' : List ℕ) (links : ℕ)
+    → tail_in (links_at head left links) ≡ tail_in (links_at head left' links)
 unfolding tail_in
 same_tails head left left' links = fun_ext (λ arc. λ k.
-    cond (arc % 2 == 0) ((same_link head left left' links (arc / 2)).0 k) ((same_link head left left' links (arc / 2)).1 k))
+    cond (arc % 2 == 0) ((same_link head left left' links (arc / 2)).0 k)
+    ((same_link head left left' links (arc / 2)).1 k))
 
-same_heads : (head left left' : List ℕ) (links : ℕ) → head_in (links_at head left links) ≡ head_in (links_at head left' links)
+same_heads : (head left left' : List ℕ) (links : ℕ)
+    → head_in (links_at head left links) ≡ head_in (links_at head left' links)
 unfolding head_in
 same_heads head left left' links = fun_ext (λ arc. λ k.
-    cond (arc % 2 == 0) ((same_link head left left' links (arc / 2)).1 k) ((same_link head left left' links (arc / 2)).0 k))
+    cond (arc % 2 == 0) ((same_link head left left' links (arc / 2)).1 k)
+    ((same_link head left left' links (arc / 2)).0 k))
 
 -- an index of one network is one of another with the same ends
 same_index : (net other : Net) (first order heads : List ℕ) → tail_in net.links ≡ tail_in other.links
@@ -349,11 +379,12 @@ pub loaded_index : (routers : ℕ) (links : List Link) (m : ℕ) (first order he
     → IsIndexed (record { routers = routers; links = links_at head left m }) first order heads → m ≡ length links
     → links_at head left' m ≡ links → IsIndexed (record { routers = routers; links = links }) first order heads
 loaded_index routers links m first order heads head left left' indexed number same router low =
-    same_index (record { routers = routers; links = links_at head left m }) (record { routers = routers; links = links })
-        first order heads
-        (same_tails head left left' m ∙ ap tail_in same)
-        (same_heads head left left' m ∙ ap head_in same)
-        (length-links_at head left m ∙ number) router (indexed router low)
+    same_index (record { routers = routers; links = links_at head left m })
+    (record { routers = routers; links = links })
+    first order heads
+    (same_tails head left left' m ∙ ap tail_in same)
+    (same_heads head left left' m ∙ ap head_in same)
+    (length-links_at head left m ∙ number) router (indexed router low)
 
 -- the lists are of the lengths that they had
 pub record SameRooms (first order heads head left first' order' heads' head' left' : List ℕ) : Type 0 where
@@ -371,7 +402,8 @@ pub loaded_stored : (room_routers room_links routers links routers' : ℕ) (net_
     → HasHeads net_links head' → HasCaps net_links left'
     → IsIndexed (record { routers = routers'; links = net_links }) first' order' heads'
     → IsStored room_routers room_links routers' (length net_links) first' order' heads' head' left'
-loaded_stored room_routers room_links routers links routers' net_links first order heads head left first' order' heads' head' left'
+loaded_stored room_routers room_links routers links routers' net_links first order heads head left first' order'
+    heads' head' left'
     stored rooms routers_fit links_fit limits at_heads at_caps indexed =
     let same = sym (loaded_links net_links head' left' at_heads at_caps) in record {
       few_routers = stored.few_routers;
@@ -385,7 +417,8 @@ loaded_stored room_routers room_links routers links routers' net_links first ord
       left_room = rooms.left_room ∙ stored.left_room;
       limits = subst (IsInLimits routers') same limits;
       pairs = loaded_pairs net_links left' at_caps;
-      indexed = subst (λ (ls : List Link). IsIndexed (record { routers = routers'; links = ls }) first' order' heads') same indexed;
+      indexed = subst (λ (ls : List Link). IsIndexed
+          (record { routers = routers'; links = ls }) first' order' heads') same indexed;
     }
 
 -- what contracts see after a load
@@ -408,12 +441,14 @@ loaded_view room_routers room_links routers links head left old net head' left' 
 }
 
 -- the lists after a load, and what contracts see of them
-pub record Load (room_routers room_links routers' links' : ℕ) (first' order' heads' head' left' : List ℕ) (old : ResidualView)
+pub record Load (room_routers room_links routers' links' : ℕ) (first' order' heads' head' left' : List ℕ)
+    (old : ResidualView)
     (net : Net) : Type 0 where
   pub stored : IsStored room_routers room_links routers' links' first' order' heads' head' left'
   pub view : IsLoaded old (view_of room_routers room_links routers' links' head' left') net
 
-pub loaded : (room_routers room_links routers links : ℕ) (first order heads head left : List ℕ) (old : ResidualView) (net : Net)
+pub loaded : (room_routers room_links routers links : ℕ) (first order heads head left : List ℕ) (old : ResidualView)
+    (net : Net)
     (net_links : List Link) (routers' links' : ℕ) (first' order' heads' head' left' : List ℕ)
     → IsStored room_routers room_links routers links first order heads head left
     → view_of room_routers room_links routers links head left ≡ old
@@ -429,8 +464,9 @@ loaded room_routers room_links routers links first order heads head left old net
     let heads_here : HasHeads net.links head' = subst (λ ls. HasHeads ls head') el at_heads in
     let caps_here : HasCaps net.links left' = subst (λ ls. HasCaps ls left') el at_caps in
     let index_here : IsIndexed net first' order' heads' =
-        subst (λ (n : Net). IsIndexed n first' order' heads') (λ i. record { routers = er i; links = el i }) indexed in
-    let done : Load room_routers room_links net.routers (length net.links) first' order' heads' head' left' old net = record {
+    subst (λ (n : Net). IsIndexed n first' order' heads') (λ i. record { routers = er i; links = el i }) indexed in
+    let done : Load room_routers room_links net.routers (length net.links) first' order' heads' head' left' old net =
+    record {
       stored = loaded_stored room_routers room_links routers links net.routers net.links first order heads head left
           first' order' heads' head' left' stored rooms (omega (arith, room.0)) (omega (arith, room.1)) limits
           heads_here caps_here index_here;
@@ -440,10 +476,12 @@ loaded room_routers room_links routers links first order heads head left old net
     (subst (λ m. Load room_routers room_links net.routers m first' order' heads' head' left' old net) (sym en) done)
 
 -- the index stays where the ends do
-pub kept_index : (room_routers room_links routers links : ℕ) (first order heads head left left' : List ℕ) (net_links : List Link)
+pub kept_index : (room_routers room_links routers links : ℕ) (first order heads head left left' : List ℕ)
+    (net_links : List Link)
     → IsStored room_routers room_links routers links first order heads head left → links ≡ length net_links
     → HasHeads net_links head → HasCaps net_links left'
     → IsIndexed (record { routers = routers; links = net_links }) first order heads
-kept_index room_routers room_links routers links first order heads head left left' net_links stored number at_heads at_caps =
+kept_index room_routers room_links routers links first order heads head left left' net_links stored number at_heads
+    at_caps =
     loaded_index routers net_links links first order heads head left left' stored.indexed number
-        (ap (links_at head left') number ∙ loaded_links net_links head left' at_heads at_caps)
+    (ap (links_at head left') number ∙ loaded_links net_links head left' at_heads at_caps)

@@ -1,5 +1,6 @@
 -- Two numbers a link, written link by link.
-use Rattle.std.proofs.Common.{◌≡◌, ◌≢◌, ℕ, ◌+◌, ◌*◌, ◌<◌, ◌≤◌, List, length, get_or, set, refl, sym, ap, ◌∙◌, inl, inr, subst, arith}
+use Rattle.std.proofs.Common.{◌≡◌, ◌≢◌, ℕ, ◌+◌, ◌*◌, ◌<◌, ◌≤◌, List, length, get_or}
+use Rattle.std.proofs.Common.{set, refl, sym, ap, ◌∙◌, inl, inr, subst, arith}
 use Rattle.std.proofs.lemmas.Bool.{cases_eq}
 use Rattle.std.proofs.lemmas.List.{get_or-set_same, get_or-set_other, length-set}
 use Rattle.cut_model.specs.declared.network.Link.{Link}
@@ -12,10 +13,12 @@ with_pair xs i x y = set (set xs (2 * i) x) (2 * i + 1) y
 
 pair-first : (xs : List ℕ) (i x y : ℕ) → 2 * i + 1 < length xs → get_or (with_pair xs i x y) (2 * i) 0 ≡ x
 pair-first xs i x y within =
-    get_or-set_other (set xs (2 * i) x) (2 * i + 1) (2 * i) y 0 (λ e. omega arith) ∙ get_or-set_same xs (2 * i) x 0 (omega arith)
+    get_or-set_other (set xs (2 * i) x) (2 * i + 1) (2 * i) y 0 (λ e. omega arith)
+    ∙ get_or-set_same xs (2 * i) x 0 (omega arith)
 
 pair-second : (xs : List ℕ) (i x y : ℕ) → 2 * i + 1 < length xs → get_or (with_pair xs i x y) (2 * i + 1) 0 ≡ y
-pair-second xs i x y within = get_or-set_same (set xs (2 * i) x) (2 * i + 1) y 0 (omega (arith, length-set xs (2 * i) x))
+pair-second xs i x y within = get_or-set_same (set xs (2 * i) x) (2 * i + 1) y 0
+    (omega (arith, length-set xs (2 * i) x))
 
 pair-other : (xs : List ℕ) (i x y j : ℕ) → j ≢ 2 * i → j ≢ 2 * i + 1 → get_or (with_pair xs i x y) j 0 ≡ get_or xs j 0
 pair-other xs i x y j here there =
@@ -26,10 +29,11 @@ pub heads-more : (links : List Link) (head : List ℕ) (i : ℕ) → 2 * i + 1 <
     → ((k : ℕ) → k < i → HasHead links head k)
     → (k : ℕ) → k < i + 1 → HasHead links (with_pair head i (get_or links i no_link).b (get_or links i no_link).a) k
 heads-more links head i within before k low = elim (cases_eq k i) [
-  | inl e ↦ subst (λ j. HasHead links (with_pair head i (get_or links i no_link).b (get_or links i no_link).a) j) (sym e) (record {
-    there = pair-first head i (get_or links i no_link).b (get_or links i no_link).a within;
-    back = pair-second head i (get_or links i no_link).b (get_or links i no_link).a within;
-  })
+  | inl e ↦ subst (λ j. HasHead links (with_pair head i (get_or links i no_link).b (get_or links i no_link).a) j)
+      (sym e) (record {
+        there = pair-first head i (get_or links i no_link).b (get_or links i no_link).a within;
+        back = pair-second head i (get_or links i no_link).b (get_or links i no_link).a within;
+      })
   | inr ne ↦
       let was = before k (omega arith) in record {
         there = pair-other head i _ _ (2 * k) (λ e. ne (omega arith)) (λ e. omega arith) ∙ was.there;
@@ -42,10 +46,11 @@ pub caps-more : (links : List Link) (left : List ℕ) (i : ℕ) → 2 * i + 1 < 
     → ((k : ℕ) → k < i → HasCap links left k)
     → (k : ℕ) → k < i + 1 → HasCap links (with_pair left i (get_or links i no_link).cap (get_or links i no_link).cap) k
 caps-more links left i within before k low = elim (cases_eq k i) [
-  | inl e ↦ subst (λ j. HasCap links (with_pair left i (get_or links i no_link).cap (get_or links i no_link).cap) j) (sym e) (record {
-    there = pair-first left i (get_or links i no_link).cap (get_or links i no_link).cap within;
-    back = pair-second left i (get_or links i no_link).cap (get_or links i no_link).cap within;
-  })
+  | inl e ↦ subst (λ j. HasCap links (with_pair left i (get_or links i no_link).cap (get_or links i no_link).cap) j)
+      (sym e) (record {
+        there = pair-first left i (get_or links i no_link).cap (get_or links i no_link).cap within;
+        back = pair-second left i (get_or links i no_link).cap (get_or links i no_link).cap within;
+      })
   | inr ne ↦
       let was = before k (omega arith) in record {
         there = pair-other left i _ _ (2 * k) (λ e. ne (omega arith)) (λ e. omega arith) ∙ was.there;

@@ -1,5 +1,6 @@
 -- What a call that reads may rely on at a router, at an arc and at a link.
-use Rattle.std.proofs.Common.{◌≡◌, ℕ, ◌+◌, ◌*◌, ◌/◌, ◌%◌, ◌<◌, ◌≤◌, List, length, get_or, sym, ap, ◌∙◌, subst, inl, inr, ne_eqb, arith}
+use Rattle.std.proofs.Common.{◌≡◌, ℕ, ◌+◌, ◌*◌, ◌/◌, ◌%◌, ◌<◌, ◌≤◌, List, length}
+use Rattle.std.proofs.Common.{get_or, sym, ap, ◌∙◌, subst, inl, inr, ne_eqb, arith}
 use Rattle.std.specs.Prelude.{ℤ, pos, ◌≤ℤ◌, ◌==◌, slice_index_or}
 use Rattle.std.specs.List.{range_with_len}
 use Rattle.std.specs.List.Sorted.{IsStrictlyIncreasing}
@@ -17,7 +18,8 @@ use Rattle.residual_graph.specs.Indexed.{IsGroup}
 use Rattle.residual_graph.specs.Storage.{cap_at, flow_at, links_at, view_of, IsStored}
 use Rattle.residual_graph.specs.View.{ResidualView, IsSound, left_on, pushed}
 use Rattle.residual_graph.proofs.Moves.{IsPush, push_is}
-use Rattle.residual_graph.proofs.Views.{net_is, flow_is, counts_are, head_is, left_is, sound_view, length-links_at, get_or-links_at, get_or-flows_at}
+use Rattle.residual_graph.proofs.Views.{net_is, flow_is, counts_are, head_is, left_is}
+use Rattle.residual_graph.proofs.Views.{sound_view, length-links_at, get_or-links_at, get_or-flows_at}
 
 -- A router's places are in the lists, and its arcs stand there.
 pub record AtRouter (first order heads : List ℕ) (net : Net) (router : ℕ) : Type 0 where
@@ -85,17 +87,20 @@ at_link room_routers room_links routers links first order heads head left view s
       cap = omega (arith, within.cap, ap (λ (l : Link). l.cap) (get_or-links_at head left links link own));
       flow_is =
           sym (get_or-flows_at left links link own)
-          ∙ ap (λ flow. slice_index_or flow link (pos 0)) (flow_is room_routers room_links routers links head left view is);
+          ∙ ap (λ flow. slice_index_or flow link (pos 0))
+          (flow_is room_routers room_links routers links head left view is);
     }
 
 -- An arc goes to one of the network's routers, and leaves one.
-pub head_below : (net : Net) → IsInLimits net.routers net.links → (arc : ℕ) → arc < arc_count net → head_of net arc < net.routers
+pub head_below : (net : Net) → IsInLimits net.routers net.links → (arc : ℕ) → arc < arc_count net
+    → head_of net arc < net.routers
 unfolding head_in
 head_below net limits arc low =
     let link = limits.within (arc / 2) no_link (omega arith) in
     elim (cases_eq (arc % 2) 0) [ inl even ↦ rw even link.b | inr odd ↦ rw (ne_eqb (arc % 2) 0 odd) link.a ]
 
-pub tail_below : (net : Net) → IsInLimits net.routers net.links → (arc : ℕ) → arc < arc_count net → tail_of net arc < net.routers
+pub tail_below : (net : Net) → IsInLimits net.routers net.links → (arc : ℕ) → arc < arc_count net
+    → tail_of net arc < net.routers
 unfolding tail_in
 tail_below net limits arc low =
     let link = limits.within (arc / 2) no_link (omega arith) in
@@ -118,7 +123,8 @@ ascends_from a n = λ k low.
 pub arcs_ascend : (net : Net) (router : ℕ) → IsStrictlyIncreasing (arcs_from net router)
 unfolding arcs_from
 arcs_ascend net router =
-    IsStrictlyIncreasing-filter (λ arc. tail_of net arc == router) (range_with_len 0 (arc_count net)) (ascends_from 0 (arc_count net))
+    IsStrictlyIncreasing-filter (λ arc. tail_of net arc == router) (range_with_len 0 (arc_count net))
+    (ascends_from 0 (arc_count net))
 
 -- No more arcs leave a router than there are.
 pub few_arcs : (net : Net) (router : ℕ) → length (arcs_from net router) ≤ arc_count net
@@ -132,14 +138,15 @@ few_arcs net router =
     )
 
 -- What a push of an amount along an arc needs, and what contracts then see.
-pub record PushAt (room_routers room_links routers links : ℕ) (first order heads head left : List ℕ) (view : ResidualView)
+pub record PushAt (room_routers room_links routers links : ℕ) (first order heads head left : List ℕ)
+    (view : ResidualView)
     (arc amount : ℕ) : Type 0 where
   pub enough : amount ≤ get_or left arc 0
   pub inside : arc < length left
   pub push : IsPush room_routers room_links routers links first order heads head left arc (bit_xor arc 1) amount
   pub view_is :
-    view_of room_routers room_links routers links head (after left arc (bit_xor arc 1) amount)
-    ≡ record view { flow = pushed view.flow arc amount }
+      view_of room_routers room_links routers links head (after left arc (bit_xor arc 1) amount)
+      ≡ record view { flow = pushed view.flow arc amount }
 
 pub push_at : (room_routers room_links routers links : ℕ) (first order heads head left : List ℕ) (view : ResidualView)
     → IsStored room_routers room_links routers links first order heads head left
@@ -152,7 +159,7 @@ push_at room_routers room_links routers links first order heads head left view s
     let counts = counts_are room_routers room_links routers links head left view is in
     let enough : amount ≤ get_or left arc 0 = omega (arith, ints, at.left_is, left_over) in
     let push = push_is room_routers room_links routers links first order heads head left arc amount stored
-        (omega (arith, counts.2)) enough in record {
+    (omega (arith, counts.2)) enough in record {
       enough = enough;
       inside = at.left_inside;
       push = push;

@@ -1,5 +1,6 @@
 -- What the stored lists say of the network and the flow that contracts see.
-use Rattle.std.proofs.Common.{◌≡◌, ◌≢◌, ℕ, zero, suc, ◌+◌, ◌*◌, ◌/◌, ◌%◌, ◌<◌, ◌≤◌, List, length, get_or, map, refl, sym, ap, ◌∙◌, subst, inl, inr, ◌⊎◌, arith, eq-eqb, ne_eqb}
+use Rattle.std.proofs.Common.{◌≡◌, ◌≢◌, ℕ, zero, suc, ◌+◌, ◌*◌, ◌/◌, ◌%◌, ◌<◌, ◌≤◌, List, length}
+use Rattle.std.proofs.Common.{get_or, map, refl, sym, ap, ◌∙◌, subst, inl, inr, ◌⊎◌, arith, eq-eqb, ne_eqb}
 use Rattle.std.specs.Prelude.{ℤ, pos, ◌+ℤ◌, ◌-ℤ◌, ◌≤ℤ◌, nat_abs}
 use Rattle.std.specs.List.{range_with_len}
 use Rattle.std.proofs.lemmas.Bool.{cases_eq}
@@ -19,15 +20,18 @@ pub length-links_at : (head left : List ℕ) (links : ℕ) → length (links_at 
 unfolding links_at
 length-links_at head left links = length-map-range_with_len (link_at head left) 0 links
 
-pub get_or-links_at : (head left : List ℕ) (links i : ℕ) → i < links → get_or (links_at head left links) i no_link ≡ link_at head left i
+pub get_or-links_at : (head left : List ℕ) (links i : ℕ) → i < links
+    → get_or (links_at head left links) i no_link ≡ link_at head left i
 unfolding links_at
-get_or-links_at head left links i low = get_or-map-range_with_len (link_at head left) 0 links i i no_link low (omega arith)
+get_or-links_at head left links i low = get_or-map-range_with_len (link_at head left) 0 links i i no_link low
+    (omega arith)
 
 pub length-flows_at : (left : List ℕ) (links : ℕ) → length (flows_at left links) ≡ links
 unfolding flows_at
 length-flows_at left links = length-map-range_with_len (flow_at left) 0 links
 
-pub get_or-flows_at : (left : List ℕ) (links i : ℕ) → i < links → get_or (flows_at left links) i (pos 0) ≡ flow_at left i
+pub get_or-flows_at : (left : List ℕ) (links i : ℕ) → i < links
+    → get_or (flows_at left links) i (pos 0) ≡ flow_at left i
 unfolding flows_at
 get_or-flows_at left links i low = get_or-map-range_with_len (flow_at left) 0 links i i (pos 0) low (omega arith)
 
@@ -68,11 +72,14 @@ pub left_is : (room_routers room_links routers links : ℕ) (first order heads h
     → left_on (view_of room_routers room_links routers links head left) arc ≡ pos (get_or left arc 0)
 left_is room_routers room_links routers links first order heads head left stored arc low = elim (there_or_back arc) [
   | inl there ↦
-      subst (λ k. left_on (view_of room_routers room_links routers links head left) k ≡ pos (get_or left k 0)) (sym there)
+      subst (λ k. left_on (view_of room_routers room_links routers links head left) k ≡ pos (get_or left k 0))
+      (sym there)
       (left_on-there room_routers room_links routers links head left (arc / 2) (omega arith))
   | inr back ↦
-      subst (λ k. left_on (view_of room_routers room_links routers links head left) k ≡ pos (get_or left k 0)) (sym back)
-      (left_on-back room_routers room_links routers links head left (arc / 2) (omega arith) (stored.pairs (arc / 2) (omega arith)))
+      subst (λ k. left_on (view_of room_routers room_links routers links head left) k ≡ pos (get_or left k 0))
+      (sym back)
+      (left_on-back room_routers room_links routers links head left (arc / 2) (omega arith)
+      (stored.pairs (arc / 2) (omega arith)))
 ]
 
 -- ---- the flow is within the capacities
@@ -138,7 +145,8 @@ counts_are room_routers room_links routers links head left view e =
     (ap (λ (n : Net). n.routers) net, number, ap (λ k. 2 * k) number)
 
 -- the stored head of an arc is the router to which it goes
-pub head_is : (head left : List ℕ) (links arc : ℕ) → arc < 2 * links → head_in (links_at head left links) arc ≡ get_or head arc 0
+pub head_is : (head left : List ℕ) (links arc : ℕ) → arc < 2 * links
+    → head_in (links_at head left links) arc ≡ get_or head arc 0
 unfolding head_in
 head_is head left links arc low = elim (there_or_back arc) [
   | inl there ↦

@@ -26,5 +26,7 @@ same_word a b small low none = same_from_bits_below 32 a b small low (λ i withi
 
 pub same_words : (a b c d : ℕ) → a < 2 ^ 32 → b < 2 ^ 32 → c < 2 ^ 32 → d < 2 ^ 32
     → bit_or (bit_xor a b) (bit_xor c d) ≡ 0 → (a ≡ b) × (c ≡ d)
-same_words a b c d sa sb sc sd none =
-    (same_word a b sa sb (none_left (bit_xor a b) (bit_xor c d) none), same_word c d sc sd (none_right (bit_xor a b) (bit_xor c d) none))
+same_words a b c d sa sb sc sd none = (
+  same_word a b sa sb (none_left (bit_xor a b) (bit_xor c d) none),
+  same_word c d sc sd (none_right (bit_xor a b) (bit_xor c d) none),
+)

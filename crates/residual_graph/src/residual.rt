@@ -1,5 +1,6 @@
 //! Residual graphs.
-ghost use Rattle.std.specs.Prelude.{◌≡◌, ℕ, ◌+◌, ◌*◌, ◌<◌, ◌≤◌, ◌≤ℤ◌, IfOk, [], length, map, pos, replicate, slice_index_or, slice_index};
+ghost use Rattle.std.specs.Prelude.{◌≡◌, ℕ, ◌+◌, ◌*◌, ◌<◌, ◌≤◌, ◌≤ℤ◌, IfOk};
+ghost use Rattle.std.specs.Prelude.{[], length, map, pos, replicate, slice_index_or, slice_index};
 ghost use Rattle.std.specs.List.Sorted.{IsStrictlyIncreasing};
 ghost use Rattle.residual_graph.specs.Arcs.{arc_count, arcs_from, head_of};
 ghost use Rattle.residual_graph.specs.View.{IsSound, left_on, pushed};
@@ -40,7 +41,8 @@ impl Model for Residual {
 
     ghost view = { λ r. view_of r.room_routers r.room_links r.routers r.links r.head.items r.left.items };
 
-    ghost invariant = { λ r. IsStored r.room_routers r.room_links r.routers r.links r.first.items r.order.items r.heads.items r.head.items r.left.items };
+    ghost invariant = { λ r. IsStored r.room_routers r.room_links r.routers r.links
+        r.first.items r.order.items r.heads.items r.head.items r.left.items };
 }
 
 impl Residual {

@@ -21,6 +21,6 @@ returns c =
 pub bounds-group-place : goal.bounds-group-place
 bounds-group-place c =
     let same : c.group.result.now ≡ arcs_from c.args.self.now.net c.args.router = c.group.ensures
-        ∙ rw (c.deref.ensures.value, c.deref-2.ensures.value)
-        (at_router _ _ _ _ _ _ _ _ _ _ c.self.invariant c.self.view_is c.args.router c.requires.router).group.arcs_at in
+    ∙ rw (c.deref.ensures.value, c.deref-2.ensures.value)
+    (at_router _ _ _ _ _ _ _ _ _ _ c.self.invariant c.self.view_is c.args.router c.requires.router).group.arcs_at in
     omega (arith, ap length same, c.requires.place)

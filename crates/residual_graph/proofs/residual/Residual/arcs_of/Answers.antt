@@ -28,5 +28,5 @@ pub overflow_cast-result : goal.overflow_cast-result
 overflow_cast-result c =
     let at = at_router _ _ _ _ _ _ _ _ _ _ c.self.invariant c.self.view_is c.args.router c.requires in
     let same : c.group.result.now ≡ arcs_from c.args.self.now.net c.args.router =
-        c.group.ensures ∙ rw (c.deref.ensures.value, c.deref-2.ensures.value) at.group.arcs_at in
+    c.group.ensures ∙ rw (c.deref.ensures.value, c.deref-2.ensures.value) at.group.arcs_at in
     omega (arith, ap length same, few_arcs c.args.self.now.net c.args.router, at.small)

@@ -15,6 +15,6 @@ pub returns : goal.returns
 returns c =
     let at = at_link _ _ _ _ _ _ _ _ _ _ c.self.invariant c.self.view_is c.args.link c.requires in
     let flow : c.flow_of_pair.result ≡ slice_index_or c.args.self.now.flow c.args.link (pos 0) =
-        c.flow_of_pair.ensures ∙ ap (λ left. flow_at left c.args.link) c.deref.ensures.value ∙ at.flow_is in
+    c.flow_of_pair.ensures ∙ ap (λ left. flow_at left c.args.link) c.deref.ensures.value ∙ at.flow_is in
     let t = c.flow_of_pair.type_inv in
     search (rules, flow)

@@ -6,7 +6,8 @@ use Rattle.residual_graph.proofs.residual.Residual.left.Goals as goal
 
 pub index-requires : goal.index-requires
 index-requires g c =
-    let at = at_arc _ _ _ _ _ _ _ _ _ _ c.self.invariant c.self.view_is c.args.arc c.requires in omega (arith, at.left_inside)
+    let at = at_arc _ _ _ _ _ _ _ _ _ _ c.self.invariant c.self.view_is c.args.arc c.requires in
+    omega (arith, at.left_inside)
 
 pub returns-clause-value : goal.returns-clause-value
 returns-clause-value g c =

@@ -6,14 +6,16 @@ use Rattle.residual_graph.proofs.Reading.{sound_of}
 use Rattle.residual_graph.proofs.residual.Residual.with_room.Goals as goal
 
 stored : (c : goal.In_ok-vec-5)
-    → IsStored c.args.routers c.args.links 1 0 c.in_ok-vec.field-0.items c.in_ok-vec-2.field-0.items c.in_ok-vec-3.field-0.items
-        c.in_ok-vec-4.field-0.items c.in_ok-vec-5.field-0.items
+    → IsStored c.args.routers c.args.links 1 0 c.in_ok-vec.field-0.items c.in_ok-vec-2.field-0.items
+    c.in_ok-vec-3.field-0.items
+    c.in_ok-vec-4.field-0.items c.in_ok-vec-5.field-0.items
 stored c =
-    fresh_stored c.args.routers c.args.links c.in_ok-vec.field-0.items c.in_ok-vec-2.field-0.items c.in_ok-vec-3.field-0.items
-        c.in_ok-vec-4.field-0.items c.in_ok-vec-5.field-0.items c.requires.some c.requires.routers c.requires.links
-        (c.in_ok-vec.ensures.items_if_clones_equal (λ y e. e))
-        (omega (arith, c.in_ok-vec-2.ensures.len)) (omega (arith, c.in_ok-vec-3.ensures.len))
-        (omega (arith, c.in_ok-vec-4.ensures.len)) (omega (arith, c.in_ok-vec-5.ensures.len))
+    fresh_stored c.args.routers c.args.links c.in_ok-vec.field-0.items c.in_ok-vec-2.field-0.items
+    c.in_ok-vec-3.field-0.items
+    c.in_ok-vec-4.field-0.items c.in_ok-vec-5.field-0.items c.requires.some c.requires.routers c.requires.links
+    (c.in_ok-vec.ensures.items_if_clones_equal (λ y e. e))
+    (omega (arith, c.in_ok-vec-2.ensures.len)) (omega (arith, c.in_ok-vec-3.ensures.len))
+    (omega (arith, c.in_ok-vec-4.ensures.len)) (omega (arith, c.in_ok-vec-5.ensures.len))
 
 pub invariant_of-result : goal.invariant_of-result
 invariant_of-result c = stored c
