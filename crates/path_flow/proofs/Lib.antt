@@ -1,0 +1,8 @@
+pub mod Arcs
+pub mod OpenArcs
+pub mod Pushes
+pub mod Trees
+pub mod Searches
+pub mod Sending
+pub mod Augmenting
+pub mod Least
