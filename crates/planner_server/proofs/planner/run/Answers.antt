@@ -1,0 +1,17 @@
+use Rattle.std.proofs.Common.{◌∙◌, ap}
+use Rattle.planner_server.specs.Commands.{status_of}
+use Rattle.planner_server.proofs.Deciding.{none_taken, always_long}
+use Rattle.planner_server.proofs.planner.run.Goals as goal
+
+pub returns-then-not-is_plan-clause-always_too_long : goal.returns-then-not-is_plan-clause-always_too_long
+returns-then-not-is_plan-clause-always_too_long g c = λ taken rest before after many unmet quiet sound.
+    absurd (none_taken _ taken rest before after many)
+
+pub returns-in_default-clause-always_too_long : goal.returns-in_default-clause-always_too_long
+returns-in_default-clause-always_too_long g c = λ taken rest before after many unmet quiet sound.
+    absurd (none_taken _ taken rest before after many)
+
+pub returns-clause-always_too_long : goal.returns-clause-always_too_long
+returns-clause-always_too_long g c = λ taken rest before after many unmet quiet sound.
+    c.from.ensures ∙ ap status_of (always_long _ _ _ _ _ _ _ taken rest c.serve-end.ensures.ends before after many unmet quiet
+    (λ failed. sound (c.serve-end.ensures.write_fault failed)))

@@ -1,0 +1,17 @@
+-- The words of the command line.
+use Rattle.std.specs.Prelude.{◌≡◌, ℕ, List, [], ◌∷◌, codes}
+use Rattle.planner_server.specs.declared.outcome.Status.{Status}
+use Rattle.planner_server.specs.declared.outcome.Status.TheVariants.{Done, ReadFault, WriteFault, TooLong}
+use Rattle.planner_server.specs.declared.serve.SessionEnd.{SessionEnd}
+use Rattle.planner_server.specs.declared.serve.SessionEnd.TheVariants as ends
+
+-- the one word `plan`
+abbrev pub IsPlan : List (List ℕ) → Type 0
+IsPlan words = words ≡ codes "plan" ∷ []
+
+-- the status that a session's end gives
+abbrev pub status_of : SessionEnd → Status
+status_of ends.Done = Done
+status_of ends.ReadFault = ReadFault
+status_of ends.WriteFault = WriteFault
+status_of ends.TooLong = TooLong

@@ -1,0 +1,29 @@
+//! How a run ends.
+
+use crate::Record;
+use std::sync::Arc;
+
+/// How a run ended.
+#[derive(Clone, Copy, PartialEq, Eq, Debug)]
+pub enum Status {
+    /// All requests were answered, up to a BYE or the end of the input.
+    Done,
+    /// The words are no command. Nothing was read or written.
+    BadWords,
+    /// The source failed. The replies to all items that were whole before are written.
+    ReadFault,
+    /// The sink failed. At most a part of the last reply is missing.
+    WriteFault,
+    /// There was no memory to begin with. Nothing was read or written.
+    NoMemory,
+    /// 2^30 bytes were read, and neither the end of the input nor a BYE came.
+    TooLong,
+}
+
+/// What a run leaves.
+#[derive(Drop)]
+pub struct Outcome {
+    pub status: Status,
+    /// The networks that were published, version 1 first: at most 256.
+    pub records: Vec<Arc<Record>>,
+}

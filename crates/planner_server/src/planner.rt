@@ -1,0 +1,145 @@
+//! The top call.
+ghost use Rattle.std.specs.Prelude.{◌≡◌, ℕ, ◌+◌, ◌^◌, ◌≤◌, ◌↔◌, ◌⊎◌, ◌++◌, List, [], Some, None, true, false, length, map, IfOk, IsTrue};
+ghost use Rattle.std.specs.String.{string_bytes};
+ghost use Rattle.planner_server.specs.Commands.{IsPlan};
+ghost use Rattle.planner_server.specs.Records.{sheets_of};
+ghost use Rattle.planner_server.specs.Sessions.{Breaks, EndsLong, EndsShort, EndsWhole};
+ghost use Rattle.planner_server.specs.Taking.{Holds};
+ghost use Rattle.planner_server.specs.Turns.{EndsAs};
+ghost use Rattle.text_forms.specs.Items.{NoBye, items_of};
+ghost use Rattle.wires.specs.Causes.{Rose};
+
+use crate::serve::{SessionEnd, serve};
+use crate::session::Session;
+use crate::{Outcome, Status};
+use cut_model::NoMemory;
+use line_reader::{Line, LineReader};
+use std::alloc::Global;
+use wires::{Sink, Source};
+
+/// All that a session needs: the reader of its lines, and its state.
+#[derive(Drop)]
+struct Desk {
+    reader: LineReader,
+    line: Line,
+    session: Session,
+}
+
+impl Desk {
+    /// Takes all memory that a session needs beside that of the texts that it loads.
+    fn make(alloc: Global) -> Result<Desk, NoMemory>
+        ensures bytes { IfOk result (λ desk. desk.reader.bytes ≡ []) }
+        ensures taken { IfOk result (λ desk. desk.reader.taken ≡ 0) }
+        ensures records { IfOk result (λ desk. sheets_of desk.session.records.items ≡ []) }
+        ensures between { IfOk result (λ desk. Holds desk.session.intake None) }
+    {
+        Ok(Desk {
+            reader: LineReader::make(alloc)?,
+            line: Line::make(alloc)?,
+            session: Session::make(alloc)?,
+        })
+    }
+}
+
+/// Whether the words are the one word `plan`.
+fn is_plan(words: &[String]) -> bool
+    ensures { IsTrue result ↔ IsPlan (map string_bytes words.now) }
+{
+    match words {
+        [word] => word.as_str() == "plan",
+        _ => false,
+    }
+}
+
+/// An end at which nothing was read or written.
+fn refused(alloc: Global, status: Status) -> Outcome
+    ensures status { result.status ≡ status }
+    ensures records { sheets_of result.records.items ≡ [] }
+{
+    Outcome {
+        status,
+        records: Vec::new(alloc),
+    }
+}
+
+impl From<SessionEnd> for Status {
+    ghost use Rattle.planner_server.specs.Commands.{status_of};
+
+    ghost from_gives = { λ end status. status ≡ status_of end };
+
+    fn from(end: SessionEnd) -> Status {
+        match end {
+            SessionEnd::Done => Status::Done,
+            SessionEnd::ReadFault => Status::ReadFault,
+            SessionEnd::WriteFault => Status::WriteFault,
+            SessionEnd::TooLong => Status::TooLong,
+        }
+    }
+}
+
+/// Runs the command that the words name; for now `plan` alone, one session over the source and the sink.
+///
+/// The session reads request lines to the end of the input or to BYE, and puts one reply for each item. The contract says
+/// for each status what was written: with the bytes that were taken from the source, the replies to their whole items over
+/// the records that are handed back. What a source or a sink doesn't tell of its bytes is left open.
+///
+/// `NoMemory` comes only before the first read. A run reads at most 2^30 bytes, keeps at most 256 records, and takes about
+/// half a megabyte for each record of the largest network, and about a megabyte beside.
+pub fn run<S: Source, K: Sink>(
+    alloc: Global,
+    words: &[String],
+    source: &mut S,
+    sink: &mut K,
+) -> Outcome
+    ensures bad_words { (result.status ≡ Status.BadWords) ↔ (IsPlan (map string_bytes words.now) → ⊥) }
+
+    // At these two nothing was read or written.
+    ensures untouched { (result.status ≡ Status.BadWords) ⊎ (result.status ≡ Status.NoMemory)
+        → (source.new ≡ source.old) × (sink.new ≡ sink.old) × (sheets_of result.records.items ≡ []) }
+
+    // What was written answers the whole items of the bytes that were taken, over these records and no others.
+    ensures done { result.status ≡ Status.Done
+        → EndsWhole (S.left source.old) (K.written sink.old) (S.left source.new) (S.ended source.new)
+        (K.written sink.new) (sheets_of result.records.items) }
+    ensures read_fault { result.status ≡ Status.ReadFault
+        → EndsShort (S.left source.old) (K.written sink.old) (S.left source.new) (S.ended source.new)
+        (K.written sink.new) (sheets_of result.records.items) }
+    ensures too_long { result.status ≡ Status.TooLong
+        → EndsLong (S.left source.old) (K.written sink.old) (S.left source.new) (S.ended source.new)
+        (K.written sink.new) (sheets_of result.records.items) }
+
+    // At most a part of the last reply is missing.
+    ensures write_fault { result.status ≡ Status.WriteFault
+        → Breaks (S.left source.old) (K.written sink.old) (S.left source.new) (S.ended source.new)
+        (K.written sink.new) (sheets_of result.records.items) }
+
+    // Each fault has its cause.
+    ensures read_cause { result.status ≡ Status.ReadFault → Rose (S.read_faults source.old) (S.read_faults source.new) }
+    ensures write_cause { result.status ≡ Status.WriteFault → Rose (K.write_faults sink.old) (K.write_faults sink.new) }
+
+    // Too many bytes always end so, where no put failed.
+    ensures always_too_long { (taken rest : List ℕ) → S.left source.old ≡ Some (taken ++ rest) → S.left source.new ≡ Some rest
+        → length taken ≡ 2 ^ 30 → S.ended source.new ≡ false → NoBye (items_of false taken)
+        → (Rose (K.write_faults sink.old) (K.write_faults sink.new) → ⊥) → result.status ≡ Status.TooLong }
+
+    // Nothing else of the two objects changed.
+    ensures beside_source { S.beside_source source.new ≡ S.beside_source source.old }
+    ensures beside_sink { K.beside_sink sink.new ≡ K.beside_sink sink.old }
+{
+    if !is_plan(words) {
+        return refused(alloc, Status::BadWords);
+    }
+    let Ok(desk) = Desk::make(alloc) else {
+        return refused(alloc, Status::NoMemory);
+    };
+    let Desk {
+        mut reader,
+        mut line,
+        mut session,
+    } = desk;
+    let end = serve(alloc, &mut reader, &mut line, &mut session, source, sink);
+    Outcome {
+        status: Status::from(end),
+        records: session.records,
+    }
+}
