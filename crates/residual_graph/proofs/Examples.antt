@@ -1,6 +1,6 @@
 -- The definitions on a small network, by computing: two parallel links, a self link, and one more.
-use Rattle.std.proofs.Common.{◌≡◌, ℕ, List, [], ◌∷◌, refl}
-use Rattle.std.specs.Prelude.{ℤ, pos, negsuc}
+use Rattle.std.proofs.Common.{◌≡◌, ℕ, [], ◌∷◌, refl}
+use Rattle.std.specs.Prelude.{pos, negsuc}
 use Rattle.cut_model.specs.declared.network.Link.{Link}
 use Rattle.cut_model.specs.Net.{Net}
 use Rattle.residual_graph.specs.Arcs.{tail_in, head_in, tail_of, head_of, arcs_from}

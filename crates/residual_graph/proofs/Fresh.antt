@@ -1,15 +1,12 @@
 -- The lists before the first load.
 use Rattle.std.proofs.Common.{◌≡◌, ℕ, ◌+◌, ◌*◌, ◌<◌, ◌≤◌, List, [], length}
 use Rattle.std.proofs.Common.{get_or, map, replicate, refl, sym, ap, ◌∙◌, arith}
-use Rattle.std.specs.Prelude.{ℤ}
 use Rattle.std.proofs.lemmas.List.{get_or-replicate, length-replicate}
 use Rattle.std.proofs.lemmas.List.Elements.{All-nil}
-use Rattle.cut_model.specs.declared.network.Link.{Link}
-use Rattle.cut_model.specs.Net.{Net, IsLink, IsInLimits}
+use Rattle.cut_model.specs.Net.{IsLink, IsInLimits}
 use Rattle.residual_graph.specs.Arcs.{head_of, arcs_from}
 use Rattle.residual_graph.specs.Indexed.{IsGroup}
 use Rattle.residual_graph.specs.Storage.{links_at, flows_at, view_of, IsStored}
-use Rattle.residual_graph.specs.View.{ResidualView}
 use Rattle.residual_graph.proofs.Filling.{slice-none}
 
 no_links : (head left : List ℕ) → links_at head left 0 ≡ []

@@ -1,7 +1,7 @@
 -- What a push and a load make of the stored lists.
 use Rattle.std.proofs.Common.{◌≡◌, ◌≢◌, ℕ, ◌+◌, ◌-◌, ◌*◌, ◌/◌, ◌%◌, ◌^◌, ◌<◌, ◌≤◌, List, length, get_or}
 use Rattle.std.proofs.Common.{set, map, replicate, cond, ◌++◌, take, refl, sym, ap, ◌∙◌, subst, inl, inr, arith}
-use Rattle.std.specs.Prelude.{ℤ, pos, neg_ℤ, ◌+ℤ◌, ◌-ℤ◌, ◌≤ℤ◌, ◌==◌}
+use Rattle.std.specs.Prelude.{ℤ, pos, neg_ℤ, ◌+ℤ◌, ◌-ℤ◌, ◌==◌}
 use Rattle.std.specs.List.{range_with_len, filter}
 use Rattle.std.specs.Int.RustNames.{bit_xor}
 use Rattle.std.specs.Int.Bits.{xor_zero_r}
@@ -13,7 +13,7 @@ use Rattle.std.proofs.lemmas.Nat.{xor_block}
 use mathlib.Core.Path.{fun_ext}
 use Rattle.cut_model.specs.declared.network.Link.{Link}
 use Rattle.cut_model.specs.Net.{Net, IsInLimits}
-use Rattle.residual_graph.specs.Arcs.{no_link, tail_in, head_in, link_of, arcs_from}
+use Rattle.residual_graph.specs.Arcs.{no_link, tail_in, head_in, arcs_from}
 use Rattle.residual_graph.specs.Fills.{HasCaps, HasHeads, after}
 use Rattle.residual_graph.specs.Indexed.{IsGroup, IsIndexed}
 use Rattle.residual_graph.specs.Storage.{cap_at, link_at, links_at, flow_at, flows_at, view_of, IsStored}

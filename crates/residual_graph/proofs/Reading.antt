@@ -1,7 +1,7 @@
 -- What a call that reads may rely on at a router, at an arc and at a link.
 use Rattle.std.proofs.Common.{◌≡◌, ℕ, ◌+◌, ◌*◌, ◌/◌, ◌%◌, ◌<◌, ◌≤◌, List, length}
 use Rattle.std.proofs.Common.{get_or, sym, ap, ◌∙◌, subst, inl, inr, ne_eqb, arith}
-use Rattle.std.specs.Prelude.{ℤ, pos, ◌≤ℤ◌, ◌==◌, slice_index_or}
+use Rattle.std.specs.Prelude.{pos, ◌≤ℤ◌, ◌==◌, slice_index_or}
 use Rattle.std.specs.List.{range_with_len}
 use Rattle.std.specs.List.Sorted.{IsStrictlyIncreasing}
 use Rattle.std.proofs.lemmas.List.FromFn.{length-range_with_len, get_or-range_with_len}
@@ -15,7 +15,7 @@ use Rattle.cut_model.specs.Net.{Net, IsInLimits}
 use Rattle.residual_graph.specs.Arcs.{no_link, arc_count, head_in, tail_in, head_of, tail_of, arcs_from}
 use Rattle.residual_graph.specs.Fills.{after}
 use Rattle.residual_graph.specs.Indexed.{IsGroup}
-use Rattle.residual_graph.specs.Storage.{cap_at, flow_at, links_at, view_of, IsStored}
+use Rattle.residual_graph.specs.Storage.{cap_at, flow_at, view_of, IsStored}
 use Rattle.residual_graph.specs.View.{ResidualView, IsSound, left_on, pushed}
 use Rattle.residual_graph.proofs.Moves.{IsPush, push_is}
 use Rattle.residual_graph.proofs.Views.{net_is, flow_is, counts_are, head_is, left_is}

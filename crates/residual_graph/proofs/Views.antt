@@ -1,16 +1,15 @@
 -- What the stored lists say of the network and the flow that contracts see.
-use Rattle.std.proofs.Common.{◌≡◌, ◌≢◌, ℕ, zero, suc, ◌+◌, ◌*◌, ◌/◌, ◌%◌, ◌<◌, ◌≤◌, List, length}
-use Rattle.std.proofs.Common.{get_or, map, refl, sym, ap, ◌∙◌, subst, inl, inr, ◌⊎◌, arith, eq-eqb, ne_eqb}
-use Rattle.std.specs.Prelude.{ℤ, pos, ◌+ℤ◌, ◌-ℤ◌, ◌≤ℤ◌, nat_abs}
+use Rattle.std.proofs.Common.{◌≡◌, ℕ, zero, suc, ◌+◌, ◌*◌, ◌/◌, ◌%◌, ◌<◌, ◌≤◌, List, length}
+use Rattle.std.proofs.Common.{get_or, map, sym, ap, ◌∙◌, subst, inl, inr, ◌⊎◌, arith}
+use Rattle.std.specs.Prelude.{ℤ, pos, ◌+ℤ◌, ◌-ℤ◌, nat_abs}
 use Rattle.std.specs.List.{range_with_len}
 use Rattle.std.proofs.lemmas.Bool.{cases_eq}
 use Rattle.std.proofs.lemmas.Int.{ints}
-use Rattle.std.proofs.lemmas.List.{get_or_past}
 use Rattle.std.proofs.lemmas.List.FromFn.{length-map-range_with_len, get_or-map-range_with_len}
 use Rattle.cut_model.specs.declared.network.Link.{Link}
-use Rattle.cut_model.specs.Net.{Net, IsInLimits}
+use Rattle.cut_model.specs.Net.{Net}
 use Rattle.cut_model.specs.Flow.{IsWithinCaps}
-use Rattle.residual_graph.specs.Arcs.{no_link, tail_in, head_in, arc_count, arcs_from}
+use Rattle.residual_graph.specs.Arcs.{no_link, head_in, arc_count}
 use Rattle.residual_graph.specs.View.{ResidualView, IsSound, left_on}
 use Rattle.residual_graph.specs.Storage.{cap_at, link_at, links_at, flow_at, flows_at, view_of, IsStored}
 

@@ -2,7 +2,7 @@
 use Rattle.std.specs.Prelude.{◌≡◌, ℕ, ◌+◌, ◌*◌, ◌/◌, ◌<◌, ◌≤◌, ℤ, pos, ◌-ℤ◌, List, length, map, slice_index}
 use Rattle.std.specs.List.{range_with_len}
 use Rattle.cut_model.specs.declared.network.Link.{Link}
-use Rattle.cut_model.specs.Net.{Net, IsInLimits}
+use Rattle.cut_model.specs.Net.{IsInLimits}
 use Rattle.residual_graph.specs.View.{ResidualView}
 use Rattle.residual_graph.specs.Indexed.{IsIndexed}
 

@@ -1,6 +1,6 @@
-use Rattle.std.proofs.Common.{◌≡◌, sym, ap, length, get_or, ◌∙◌, arith}
+use Rattle.std.proofs.Common.{◌≡◌, ap, length, get_or, ◌∙◌, arith}
 use Rattle.residual_graph.specs.Arcs.{arcs_from}
-use Rattle.residual_graph.proofs.Reading.{at_router, sound_of, arcs_ascend}
+use Rattle.residual_graph.proofs.Reading.{at_router}
 use Rattle.residual_graph.proofs.residual.Residual.arc.Goals as goal
 
 pub group-requires : goal.group-requires

@@ -1,4 +1,4 @@
-use Rattle.std.proofs.Common.{◌≡◌, sym, ap, length, get_or, ◌∙◌, arith}
+use Rattle.std.proofs.Common.{◌≡◌, ap, length, ◌∙◌, arith}
 use Rattle.residual_graph.specs.Arcs.{arcs_from}
 use Rattle.residual_graph.proofs.Reading.{at_router, sound_of, arcs_ascend, few_arcs}
 use Rattle.residual_graph.proofs.residual.Residual.arcs_of.Goals as goal

@@ -1,5 +1,5 @@
-use Rattle.std.proofs.Common.{sym, ap, length, get_or, ◌∙◌, arith}
-use Rattle.residual_graph.proofs.Reading.{at_router, sound_of, arcs_ascend}
+use Rattle.std.proofs.Common.{◌∙◌, arith}
+use Rattle.residual_graph.proofs.Reading.{at_router, sound_of}
 use Rattle.residual_graph.proofs.residual.Residual.arcs_out.Goals as goal
 
 pub group-requires : goal.group-requires

@@ -1,7 +1,5 @@
-use Rattle.std.proofs.Common.{◌≡◌, rules, sym, ap, ◌∙◌, arith}
+use Rattle.std.proofs.Common.{◌≡◌, rules, ap, ◌∙◌}
 use Rattle.std.specs.Prelude.{pos, slice_index_or}
-use Rattle.std.proofs.lemmas.Int.{ints}
-use Rattle.std.proofs.lemmas.Grind.{common_steps}
 use Rattle.residual_graph.specs.Storage.{flow_at}
 use Rattle.residual_graph.proofs.Reading.{at_link}
 use Rattle.residual_graph.proofs.residual.Residual.flow_on.Goals as goal

@@ -1,4 +1,4 @@
-use Rattle.std.proofs.Common.{sym, ap, ◌∙◌, subst, ◌<◌, ℕ, arith}
+use Rattle.std.proofs.Common.{sym, ◌∙◌, subst, ◌<◌, ℕ, arith}
 use Rattle.std.proofs.lemmas.Grind.{get_or_default_zero}
 use Rattle.residual_graph.proofs.Reading.{at_arc, sound_of, head_below}
 use Rattle.residual_graph.proofs.residual.Residual.head.Goals as goal

@@ -1,7 +1,5 @@
-use Rattle.std.proofs.Common.{◌≡◌, ◌++◌, List, length, take, drop, refl, sym, ap, ◌∙◌, subst, arith}
-use Rattle.cut_model.specs.declared.network.Link.{Link}
+use Rattle.std.proofs.Common.{◌++◌, length, take, drop, refl, sym, ap, ◌∙◌, subst, arith}
 use Rattle.residual_graph.specs.Fills.{HasCaps, HasHeads}
-use Rattle.residual_graph.specs.Indexed.{IsIndexed}
 use Rattle.residual_graph.proofs.Moves.{Load, loaded, kept_index, written}
 use Rattle.residual_graph.proofs.Reading.{sound_of}
 use Rattle.residual_graph.proofs.Views.{rooms_are}

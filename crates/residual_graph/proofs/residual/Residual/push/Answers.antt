@@ -1,6 +1,4 @@
-use Rattle.std.proofs.Common.{◌≡◌, ◌++◌, length, take, drop, refl, ap, sym, ◌∙◌, arith}
-use Rattle.std.specs.Int.RustNames.{bit_xor}
-use Rattle.residual_graph.specs.Fills.{after}
+use Rattle.std.proofs.Common.{length, drop, refl, arith}
 use Rattle.residual_graph.proofs.Moves.{written}
 use Rattle.residual_graph.proofs.Reading.{push_at, sound_of}
 use Rattle.residual_graph.proofs.residual.Residual.push.Goals as goal
