@@ -1,5 +1,6 @@
 -- How replies to stretches of items join, and stay right while records are added.
-use Rattle.std.proofs.Common.{◌≡◌, ℕ, zero, suc, ◌<◌, ◌≤◌, List, [], ◌∷◌, ◌++◌, length, None, Some, refl, sym, ap, ◌∙◌, arith, append_assoc, subst, inl, inr, length-append}
+use Rattle.std.proofs.Common.{◌≡◌, ℕ, zero, suc, ◌<◌, ◌≤◌, List, [], ◌∷◌, ◌++◌, length, None, Some, refl, sym, ap}
+use Rattle.std.proofs.Common.{◌∙◌, arith, append_assoc, subst, inl, inr, length-append}
 use Rattle.std.proofs.lemmas.List.{append-nil}
 use Rattle.std.specs.declared.option.Option.{Option}
 use Rattle.std.specs.Prelude.{slice_get}
@@ -34,7 +35,8 @@ slice_get-grown (y ∷ xs) more zero low = refl
 slice_get-grown (y ∷ xs) more (suc i) low = slice_get-grown xs more i (omega arith)
 
 -- the first place of what was added
-slice_get-seam : (xs : List SheetView) (x : SheetView) (ys : List SheetView) → slice_get (xs ++ x ∷ ys) (length xs) ≡ Some x
+slice_get-seam : (xs : List SheetView) (x : SheetView) (ys : List SheetView)
+    → slice_get (xs ++ x ∷ ys) (length xs) ≡ Some x
 slice_get-seam [] x ys = refl
 slice_get-seam (a ∷ xs) x ys = slice_get-seam xs x ys
 
@@ -58,12 +60,16 @@ Step-within records seen (Load text whole) reply next step low = of_load (verdic
 
 Step-grown : (records more : List SheetView) (seen : ℕ) (item : Item) (reply : List ℕ) (next : ℕ)
     → Step records seen item reply next → seen ≤ length records → Step (records ++ more) seen item reply next
-Step-grown records more seen (Ask line) reply next step low =
-    (step.0, subst (λ (sheet : Option SheetView). IsReply sheet seen line reply) (sym (record_at-grown records more seen low)) step.1)
+Step-grown records more seen (Ask line) reply next step low = (
+  step.0,
+  subst (λ (sheet : Option SheetView). IsReply sheet seen line reply)
+      (sym (record_at-grown records more seen low)) step.1,
+)
 Step-grown records more seen Bye reply next step low = step
 Step-grown records more seen (Load text whole) reply next step low = of_load (verdict_of text whole) step
   where
-    of_load : (verdict : Option SheetView) → LoadStep records seen verdict reply next → LoadStep (records ++ more) seen verdict reply next
+    of_load : (verdict : Option SheetView) → LoadStep records seen verdict reply next
+        → LoadStep (records ++ more) seen verdict reply next
     of_load None step = step
     of_load (Some sheet) (inl step) =
         inl (step.0, slice_get-grown records more seen (slice_get-within records seen sheet step.1) ∙ step.1, step.2)
@@ -78,14 +84,17 @@ AloneTo-grown records more seen (item ∷ items) text last p low = record {
   next = p.next;
   step = Step-grown records more seen item p.reply p.next p.step low;
   joins = p.joins;
-  on = AloneTo-grown records more p.next items p.rest last p.on (Step-within records seen item p.reply p.next p.step low);
+  on = AloneTo-grown records more p.next items p.rest last p.on (Step-within records seen item p.reply p.next p.step
+      low);
 }
 
 -- replies stay right while records are added
 pub AloneTo-grow : (records all : List SheetView) (seen : ℕ) (items : List Item) (text : List ℕ) (last : ℕ)
-    → Grows records all → AloneTo records seen items text last → seen ≤ length records → AloneTo all seen items text last
+    → Grows records all → AloneTo records seen items text last → seen ≤ length records
+    → AloneTo all seen items text last
 AloneTo-grow records all seen items text last grows p low =
-    subst (λ (v : List SheetView). AloneTo v seen items text last) (sym grows.1) (AloneTo-grown records grows.0 seen items text last p low)
+    subst (λ (v : List SheetView). AloneTo v seen items text last) (sym grows.1)
+    (AloneTo-grown records grows.0 seen items text last p low)
 
 -- records are added to records that were added
 pub Grows-trans : (a b c : List SheetView) → Grows a b → Grows b c → Grows a c
@@ -130,7 +139,8 @@ pub Gives-none : (records : List SheetView) → Gives records [] [] records
 Gives-none records = (grows_none records, (refl, refl))
 
 -- the place of a record that is added
-pub slice_get-added : (records : List SheetView) (sheet : SheetView) → slice_get (records ++ sheet ∷ []) (length records) ≡ Some sheet
+pub slice_get-added : (records : List SheetView) (sheet : SheetView)
+    → slice_get (records ++ sheet ∷ []) (length records) ≡ Some sheet
 slice_get-added records sheet = slice_get-seam records sheet []
 
 -- two stretches of items that each lead from records to more records

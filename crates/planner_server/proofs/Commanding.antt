@@ -1,5 +1,6 @@
 -- The words of the command line.
-use Rattle.std.proofs.Common.{◌≡◌, ℕ, ◌<◌, ◌≤◌, List, [], ◌∷◌, length, map, get_or, Bool, sym, ap, ◌∙◌, arith, IsTrue, ◌↔◌}
+use Rattle.std.proofs.Common.{◌≡◌, ℕ, ◌<◌, ◌≤◌, List, [], ◌∷◌, length, map, get_or, Bool, sym, ap, ◌∙◌, arith}
+use Rattle.std.proofs.Common.{IsTrue, ◌↔◌}
 use Rattle.std.proofs.lemmas.Slice.Eq.{bytes_eq-Decides}
 use Rattle.std.specs.Str.{bytes_eq}
 
@@ -14,7 +15,8 @@ pub is_word : {A : Type 0} (bytes_of : A → List ℕ) (words : List A) (word : 
     → 1 ≤ length words → length words < 2 → word ≡ get_or words 0 word → text ≡ bytes_of word → b ≡ bytes_eq text code
     → IsTrue b ↔ (map bytes_of words ≡ code ∷ [])
 is_word bytes_of words word text code b some few is shows answer =
-    let one : map bytes_of words ≡ text ∷ [] = ap (map bytes_of) (only_one words word some few is) ∙ ap (λ t. t ∷ []) (sym shows) in (
+    let one : map bytes_of words ≡ text ∷ [] = ap (map bytes_of) (only_one words word some few is)
+    ∙ ap (λ t. t ∷ []) (sym shows) in (
       λ yes. one ∙ ap (λ t. t ∷ []) ((bytes_eq-Decides text code).0 (sym answer ∙ yes)),
       λ same. answer ∙ (bytes_eq-Decides text code).1 (let e : text ∷ [] ≡ code ∷ [] = sym one ∙ same in cc),
     )

@@ -1,5 +1,6 @@
 -- What one line, or the end of the input, does to a session.
-use Rattle.std.proofs.Common.{◌≡◌, ℕ, ◌<◌, ◌≤◌, List, [], ◌∷◌, ◌++◌, length, take, None, Some, Bool, true, false, refl, sym, ap, ◌∙◌, arith, append_assoc, subst, inl, inr, length-append}
+use Rattle.std.proofs.Common.{◌≡◌, ℕ, ◌<◌, ◌≤◌, List, [], ◌∷◌, ◌++◌, length, take, None, Some, Bool, true, false}
+use Rattle.std.proofs.Common.{refl, sym, ap, ◌∙◌, arith, append_assoc, subst, inl, inr, length-append}
 use Rattle.std.proofs.lemmas.List.{append-nil}
 use Rattle.std.proofs.KnownBytes.{Appends-trans, Consumes-trans}
 use Rattle.std.specs.declared.option.Option.{Option}
@@ -13,27 +14,33 @@ use Rattle.planner_server.specs.Answers.{Alone}
 use Rattle.planner_server.specs.Modes.{next_text, gives, Gives, closing, IsQuiet, IsByeLine}
 use Rattle.planner_server.specs.Sessions.{SoFar, Ends, Breaks, IsComplete, EndsWhole}
 use Rattle.planner_server.proofs.Answering.{Alone-on, AloneTo-grow, Gives-join, grows_none}
-use Rattle.planner_server.proofs.Serving.{goes_on, line_items, last_items, end_items, stops_items, bye_items, bye_last_items, gives-one, ends-one, closes, bye-gives}
+use Rattle.planner_server.proofs.Serving.{goes_on, line_items, last_items, end_items, stops_items, bye_items}
+use Rattle.planner_server.proofs.Serving.{bye_last_items, gives-one, ends-one, closes, bye-gives}
 use Rattle.query_lang.specs.Replies.{bye_text}
 use Rattle.text_forms.specs.Lines.{NoFeed, front_of}
 use Rattle.text_forms.specs.Items.{Item, Bye, NoBye, items_from, items_on, items_of}
 
 -- bytes that are held were taken too
-Consumes-held : (a left : Option (List ℕ)) (held bytes : List ℕ) → Consumes a (prepend_known held left) bytes → Consumes a left (bytes ++ held)
+Consumes-held : (a left : Option (List ℕ)) (held bytes : List ℕ) → Consumes a (prepend_known held left) bytes
+    → Consumes a left (bytes ++ held)
 Consumes-held None left held bytes p = tt
 Consumes-held (Some u) None held bytes p = absurd p
 Consumes-held (Some u) (Some v) held bytes p = p ∙ sym (append_assoc bytes held v)
 
 -- where nothing is held, what was passed is what was taken
-Consumes-spent : (a left : Option (List ℕ)) (held bytes : List ℕ) → held ≡ [] → Consumes a (prepend_known held left) bytes → Consumes a left bytes
-Consumes-spent a left held bytes none p = subst (Consumes a left) (ap (λ h. bytes ++ h) none ∙ append-nil bytes) (Consumes-held a left held bytes p)
+Consumes-spent : (a left : Option (List ℕ)) (held bytes : List ℕ) → held ≡ []
+    → Consumes a (prepend_known held left) bytes → Consumes a left bytes
+Consumes-spent a left held bytes none p = subst (Consumes a left) (ap (λ h. bytes ++ h) none ∙ append-nil bytes)
+    (Consumes-held a left held bytes p)
 
 module _ (left0 written0 left written now after_left : Option (List ℕ)) (ended met : Bool) (held held2 : Held)
     (records after : List SheetView) (open_text : Option (List (List ℕ)))
     (s : SoFar left0 written0 held left ended written records open_text) where
   -- the session ends where these items, the last of the whole items, are answered by what was written
-  ends_by : (P : List ℕ → List Item → Type 0) (bytes out : List ℕ) (items : List Item) → items_of met bytes ≡ s.serves.done ++ items
-      → Gives records items out after → Consumes left0 after_left bytes → Appends written now out → P bytes (items_of met bytes)
+  ends_by : (P : List ℕ → List Item → Type 0) (bytes out : List ℕ) (items : List Item)
+      → items_of met bytes ≡ s.serves.done ++ items
+      → Gives records items out after → Consumes left0 after_left bytes → Appends written now out
+      → P bytes (items_of met bytes)
       → Ends P left0 written0 after_left met now after
   ends_by P bytes out items are given gone wrote why = record {
     bytes = bytes;
@@ -46,8 +53,10 @@ module _ (left0 written0 left written now after_left : Option (List ℕ)) (ended
   }
 
   -- the session breaks in the reply to these items, of which there is one at most
-  breaks_by : (bytes reply : List ℕ) (items behind : List Item) (count : ℕ) → items_of met bytes ≡ (s.serves.done ++ items) ++ behind
-      → length items ≤ 1 → Gives records items reply after → Consumes left0 after_left bytes → Appends written now (take count reply)
+  breaks_by : (bytes reply : List ℕ) (items behind : List Item) (count : ℕ)
+      → items_of met bytes ≡ (s.serves.done ++ items) ++ behind
+      → length items ≤ 1 → Gives records items reply after → Consumes left0 after_left bytes
+      → Appends written now (take count reply)
       → Breaks left0 written0 after_left met now after
   breaks_by bytes reply items behind count are one given gone wrote = record {
     bytes = bytes;
@@ -60,7 +69,8 @@ module _ (left0 written0 left written now after_left : Option (List ℕ)) (ended
     count = count;
     whole = are;
     one = one;
-    before = AloneTo-grow records after 0 s.serves.done s.text (length records) given.0 s.serves.answered (omega arith);
+    before = AloneTo-grow records after 0 s.serves.done s.text (length records) given.0 s.serves.answered
+        (omega arith);
     answers = given.1;
     gone = gone;
     wrote = Appends-trans written0 written now s.text (take count reply) s.wrote wrote;
@@ -70,7 +80,9 @@ module _ (left0 written0 left written now after_left : Option (List ℕ)) (ended
   taken_line : (line : List ℕ) → Goes held left held2 after_left (line ++ 10 ∷ [])
       → Consumes left0 after_left ((s.bytes ++ (line ++ 10 ∷ [])) ++ held2.bytes)
   taken_line line goes =
-      Consumes-held left0 after_left held2.bytes (s.bytes ++ (line ++ 10 ∷ [])) (Consumes-trans left0 (ahead held left) (ahead held2 after_left) s.bytes (line ++ 10 ∷ []) s.gone goes.gone)
+      Consumes-held left0 after_left held2.bytes (s.bytes ++ (line ++ 10 ∷ []))
+      (Consumes-trans left0 (ahead held left) (ahead held2 after_left) s.bytes (line ++ 10 ∷ []) s.gone
+      goes.gone)
 
   -- what was taken where no line feed came
   taken_part : (line : List ℕ) → Passes held left held2 after_left line → Consumes left0 after_left (s.bytes ++ line)
@@ -79,30 +91,37 @@ module _ (left0 written0 left written now after_left : Option (List ℕ)) (ended
       (Consumes-trans left0 (ahead held left) (ahead held2 after_left) s.bytes line s.gone passes.goes.gone)
 
   -- a whole line that is no BYE was answered
-  pub whole_line : (line front out : List ℕ) → NoFeed line → Goes held left held2 after_left (line ++ 10 ∷ []) → front ≡ front_of line
-      → (IsOpen held ended → IsOpen held2 met) → IsQuiet open_text front → Gives records (gives open_text front) out after → Appends written now out
+  pub whole_line : (line front out : List ℕ) → NoFeed line → Goes held left held2 after_left (line ++ 10 ∷ [])
+      → front ≡ front_of line
+      → (IsOpen held ended → IsOpen held2 met) → IsQuiet open_text front
+      → Gives records (gives open_text front) out after → Appends written now out
       → SoFar left0 written0 held2 after_left met now after (next_text open_text front)
   whole_line line front out clean goes is opens quiet given wrote =
       let quiet' : IsQuiet open_text (front_of line) = subst (IsQuiet open_text) is quiet in
       let given' = subst (λ (f : List ℕ). Gives records (gives open_text f) out after) is given in
-      subst (λ (f : List ℕ). SoFar left0 written0 held2 after_left met now after (next_text open_text f)) (sym is) (record {
+      subst (λ (f : List ℕ). SoFar left0 written0 held2 after_left met now after (next_text open_text f)) (sym is)
+      (record {
         bytes = s.bytes ++ (line ++ 10 ∷ []);
         text = s.text ++ out;
         serves = goes_on s.bytes s.text records open_text s.serves after line out clean quiet' given';
-        gone = Consumes-trans left0 (ahead held left) (ahead held2 after_left) s.bytes (line ++ 10 ∷ []) s.gone goes.gone;
+        gone = Consumes-trans left0 (ahead held left) (ahead held2 after_left) s.bytes (line ++ 10 ∷ []) s.gone
+            goes.gone;
         count = omega (arith, s.count, goes.count, length-append s.bytes (line ++ 10 ∷ []));
         unmet = opens s.unmet;
         wrote = Appends-trans written0 written now s.text out s.wrote wrote;
       })
 
   -- the reply to a whole line that is no BYE was begun
-  pub whole_line_breaks : (line front out : List ℕ) (count : ℕ) → NoFeed line → Goes held left held2 after_left (line ++ 10 ∷ []) → front ≡ front_of line
-      → IsQuiet open_text front → Gives records (gives open_text front) out after → Appends written now (take count out)
+  pub whole_line_breaks : (line front out : List ℕ) (count : ℕ) → NoFeed line
+      → Goes held left held2 after_left (line ++ 10 ∷ []) → front ≡ front_of line
+      → IsQuiet open_text front → Gives records (gives open_text front) out after
+      → Appends written now (take count out)
       → Breaks left0 written0 after_left met now after
   whole_line_breaks line front out count clean goes is quiet given wrote =
       breaks_by ((s.bytes ++ (line ++ 10 ∷ [])) ++ held2.bytes) out (gives open_text (front_of line))
       (items_on met (next_text open_text (front_of line)) held2.bytes) count
-      (line_items s.bytes s.text records open_text s.serves met line held2.bytes clean (subst (IsQuiet open_text) is quiet))
+      (line_items s.bytes s.text records open_text s.serves met line held2.bytes clean
+      (subst (IsQuiet open_text) is quiet))
       (gives-one open_text (front_of line))
       (subst (λ (f : List ℕ). Gives records (gives open_text f) out after) is given) (taken_line line goes) wrote
 
@@ -118,60 +137,80 @@ module _ (left0 written0 left written now after_left : Option (List ℕ)) (ended
   -- and a part of it was written
   pub end_breaks : (count : ℕ) → Passes held left held2 after_left [] → IsOver met after_left
       → Gives records (items_from true open_text []) (closing open_text (length records)) after
-      → Appends written now (take count (closing open_text (length records))) → Breaks left0 written0 after_left met now after
+      → Appends written now (take count (closing open_text (length records)))
+      → Breaks left0 written0 after_left met now after
   end_breaks count passes over given wrote =
       breaks_by s.bytes (closing open_text (length records)) (items_from true open_text []) [] count
-      (ap (λ e. items_of e s.bytes) over.0 ∙ end_items s.bytes s.text records open_text s.serves ∙ sym (append-nil (s.serves.done ++ items_from true open_text [])))
+      (ap (λ e. items_of e s.bytes) over.0 ∙ end_items s.bytes s.text records open_text s.serves
+      ∙ sym (append-nil (s.serves.done ++ items_from true open_text [])))
       (ends-one open_text) given (subst (Consumes left0 after_left) (append-nil s.bytes) (taken_part [] passes)) wrote
 
   -- the reply to the last line, which has no line feed, was begun
-  pub last_line_breaks : (line front out : List ℕ) (count : ℕ) → Passes held left held2 after_left line → 0 < length line → front ≡ front_of line → IsOver met after_left
-      → IsQuiet open_text front → Gives records (gives open_text front) out after → Appends written now (take count out)
+  pub last_line_breaks : (line front out : List ℕ) (count : ℕ) → Passes held left held2 after_left line
+      → 0 < length line → front ≡ front_of line → IsOver met after_left
+      → IsQuiet open_text front → Gives records (gives open_text front) out after
+      → Appends written now (take count out)
       → Breaks left0 written0 after_left met now after
   last_line_breaks [] front out count passes some is over quiet given wrote = absurd (omega arith)
   last_line_breaks (b ∷ line) front out count passes some is over quiet given wrote =
-      breaks_by (s.bytes ++ b ∷ line) out (gives open_text (front_of (b ∷ line))) (items_from true (next_text open_text (front_of (b ∷ line))) []) count
+      breaks_by (s.bytes ++ b ∷ line) out (gives open_text (front_of (b ∷ line)))
+      (items_from true (next_text open_text (front_of (b ∷ line))) []) count
       (ap (λ e. items_of e (s.bytes ++ b ∷ line)) over.0
       ∙ last_items s.bytes s.text records open_text s.serves b line passes.clean (subst (IsQuiet open_text) is quiet))
       (gives-one open_text (front_of (b ∷ line)))
-      (subst (λ (f : List ℕ). Gives records (gives open_text f) out after) is given) (taken_part (b ∷ line) passes) wrote
+      (subst (λ (f : List ℕ). Gives records (gives open_text f) out after) is given) (taken_part (b ∷ line) passes)
+      wrote
 
   -- a part of a line came, and no more
-  pub stops : (P : List ℕ → List Item → Type 0) (line : List ℕ) → Passes held left held2 after_left line → met ≡ false → Appends written now [] → after ≡ records
+  pub stops : (P : List ℕ → List Item → Type 0) (line : List ℕ) → Passes held left held2 after_left line
+      → met ≡ false → Appends written now [] → after ≡ records
       → (length (s.bytes ++ line) ≡ held2.taken → NoBye s.serves.done → P (s.bytes ++ line) s.serves.done)
       → Ends P left0 written0 after_left met now after
   stops P line passes unmet wrote same why =
       let items : items_of met (s.bytes ++ line) ≡ s.serves.done =
-      ap (λ e. items_of e (s.bytes ++ line)) unmet ∙ stops_items s.bytes s.text records open_text s.serves line passes.clean in
+      ap (λ e. items_of e (s.bytes ++ line)) unmet ∙ stops_items s.bytes s.text records open_text s.serves line
+      passes.clean in
       let count : length (s.bytes ++ line) ≡ held2.taken =
       omega (arith, s.count, passes.goes.count, ap length passes.spent, length-append s.bytes line) in
       ends_by P (s.bytes ++ line) [] [] (items ∙ sym (append-nil s.serves.done))
-      (subst (λ (v : List SheetView). Gives records [] [] v) (sym same) (grows_none records, (refl, refl))) (taken_part line passes) wrote
+      (subst (λ (v : List SheetView). Gives records [] [] v) (sym same) (grows_none records, (refl, refl)))
+      (taken_part line passes) wrote
       (subst (λ (is : List Item). P (s.bytes ++ line) is) (sym items) (why count s.serves.quiet))
 
   -- the last line, which has no line feed, was answered, and what is owed then was written
-  pub last_line_ends : (mid : List SheetView) (line front out : List ℕ) → Passes held left held2 after_left line → 0 < length line
-      → front ≡ front_of line → IsOver met after_left → IsQuiet open_text front → Gives records (gives open_text front) out mid
-      → Gives mid (items_from true (next_text open_text front) []) (closing (next_text open_text front) (length mid)) after
-      → Appends written now (out ++ closing (next_text open_text front) (length mid)) → EndsWhole left0 written0 after_left met now after
+  pub last_line_ends : (mid : List SheetView) (line front out : List ℕ) → Passes held left held2 after_left line
+      → 0 < length line
+      → front ≡ front_of line → IsOver met after_left → IsQuiet open_text front
+      → Gives records (gives open_text front) out mid
+      → Gives mid (items_from true (next_text open_text front) [])
+      (closing (next_text open_text front) (length mid)) after
+      → Appends written now (out ++ closing (next_text open_text front) (length mid))
+      → EndsWhole left0 written0 after_left met now after
   last_line_ends mid [] front out passes some is over quiet given closes wrote = absurd (omega arith)
   last_line_ends mid (b ∷ line) front out passes some is over quiet given closes wrote =
       let last = items_from true (next_text open_text front) [] in
       let next_line : items_of met (s.bytes ++ b ∷ line) ≡ s.serves.done ++ (gives open_text front ++ last) =
       ap (λ e. items_of e (s.bytes ++ b ∷ line)) over.0
       ∙ last_items s.bytes s.text records open_text s.serves b line passes.clean (subst (IsQuiet open_text) is quiet)
-      ∙ ap (λ (f : List ℕ). (s.serves.done ++ gives open_text f) ++ items_from true (next_text open_text f) []) (sym is)
+      ∙ ap (λ (f : List ℕ). (s.serves.done ++ gives open_text f) ++ items_from true (next_text open_text f) [])
+      (sym is)
       ∙ append_assoc s.serves.done (gives open_text front) last in
-      ends_by (IsComplete met after_left) (s.bytes ++ b ∷ line) (out ++ closing (next_text open_text front) (length mid))
+      ends_by (IsComplete met after_left) (s.bytes ++ b ∷ line) (out ++ closing (next_text open_text front)
+      (length mid))
       (gives open_text front ++ last) next_line
-      (Gives-join records mid after (gives open_text front) last out (closing (next_text open_text front) (length mid)) given closes)
+      (Gives-join records mid after (gives open_text front) last out
+      (closing (next_text open_text front) (length mid)) given closes)
       (taken_part (b ∷ line) passes) wrote (inr over)
 
   -- the last line was answered, and only a part of what is owed then was written
-  pub closing_breaks : (mid : List SheetView) (line front out : List ℕ) (count : ℕ) → Passes held left held2 after_left line → 0 < length line
-      → front ≡ front_of line → IsOver met after_left → IsQuiet open_text front → Gives records (gives open_text front) out mid
-      → Gives mid (items_from true (next_text open_text front) []) (closing (next_text open_text front) (length mid)) after
-      → Appends written now (out ++ take count (closing (next_text open_text front) (length mid))) → Breaks left0 written0 after_left met now after
+  pub closing_breaks : (mid : List SheetView) (line front out : List ℕ) (count : ℕ)
+      → Passes held left held2 after_left line → 0 < length line
+      → front ≡ front_of line → IsOver met after_left → IsQuiet open_text front
+      → Gives records (gives open_text front) out mid
+      → Gives mid (items_from true (next_text open_text front) [])
+      (closing (next_text open_text front) (length mid)) after
+      → Appends written now (out ++ take count (closing (next_text open_text front) (length mid)))
+      → Breaks left0 written0 after_left met now after
   closing_breaks mid [] front out count passes some is over quiet given closes wrote = absurd (omega arith)
   closing_breaks mid (b ∷ line) front out count passes some is over quiet given closes wrote =
       let last = items_from true (next_text open_text front) [] in
@@ -185,12 +224,16 @@ module _ (left0 written0 left written now after_left : Option (List ℕ)) (ended
         seen = length mid;
         count = count;
         whole = ap (λ e. items_of e (s.bytes ++ b ∷ line)) over.0
-            ∙ last_items s.bytes s.text records open_text s.serves b line passes.clean (subst (IsQuiet open_text) is quiet)
-            ∙ ap (λ (f : List ℕ). (s.serves.done ++ gives open_text f) ++ items_from true (next_text open_text f) []) (sym is)
+            ∙ last_items s.bytes s.text records open_text s.serves b line passes.clean
+            (subst (IsQuiet open_text) is quiet)
+            ∙ ap (λ (f : List ℕ). (s.serves.done ++ gives open_text f) ++ items_from true (next_text open_text f)
+            []) (sym is)
             ∙ sym (append-nil ((s.serves.done ++ gives open_text front) ++ last));
         one = ends-one (next_text open_text front);
-        before = AloneTo-grow mid after 0 (s.serves.done ++ gives open_text front) (s.text ++ out) (length mid) closes.0
-            (Alone-on records mid s.serves.done (gives open_text front) s.text out s.serves.answered given) (omega arith);
+        before = AloneTo-grow mid after 0 (s.serves.done ++ gives open_text front) (s.text ++ out) (length mid)
+            closes.0
+            (Alone-on records mid s.serves.done (gives open_text front) s.text out s.serves.answered given)
+            (omega arith);
         answers = closes.1;
         gone = taken_part (b ∷ line) passes;
         wrote = subst (Appends written0 now) (sym (append_assoc s.text out (take count owed)))
@@ -198,35 +241,45 @@ module _ (left0 written0 left written now after_left : Option (List ℕ)) (ended
       }
 
 module _ (left0 written0 left written now after_left : Option (List ℕ)) (ended met : Bool) (held held2 : Held)
-    (records after : List SheetView) (s : SoFar left0 written0 held left ended written records None) (same : after ≡ records) where
+    (records after : List SheetView) (s : SoFar left0 written0 held left ended written records None)
+    (same : after ≡ records) where
   -- a BYE publishes nothing
   bye_given : Gives records (Bye ∷ []) (bye_text (length records)) after
-  bye_given = subst (λ (v : List SheetView). Gives records (Bye ∷ []) (bye_text (length records)) v) (sym same) (bye-gives records)
+  bye_given = subst (λ (v : List SheetView). Gives records (Bye ∷ []) (bye_text (length records)) v) (sym same)
+      (bye-gives records)
 
   -- the items of a whole line BYE
   line_bye : (line front : List ℕ) → NoFeed line → front ≡ front_of line → IsByeLine front
       → items_of met ((s.bytes ++ (line ++ 10 ∷ [])) ++ held2.bytes) ≡ s.serves.done ++ Bye ∷ []
   line_bye line front clean is bye =
-      let joined : (s.bytes ++ (line ++ 10 ∷ [])) ++ held2.bytes ≡ s.bytes ++ (line ++ 10 ∷ held2.bytes) = simp append_assoc in
-      ap (items_of met) joined ∙ bye_items s.bytes s.text records s.serves met line held2.bytes clean (subst IsByeLine is bye)
+      let joined : (s.bytes ++ (line ++ 10 ∷ [])) ++ held2.bytes ≡ s.bytes ++ (line ++ 10 ∷ held2.bytes) =
+      simp append_assoc in
+      ap (items_of met) joined ∙ bye_items s.bytes s.text records s.serves met line held2.bytes clean
+      (subst IsByeLine is bye)
 
   -- the items of a BYE that the end of the input ends
-  last_bye : (b : ℕ) (line front : List ℕ) → NoFeed (b ∷ line) → front ≡ front_of (b ∷ line) → IsOver met after_left → IsByeLine front
+  last_bye : (b : ℕ) (line front : List ℕ) → NoFeed (b ∷ line) → front ≡ front_of (b ∷ line) → IsOver met after_left
+      → IsByeLine front
       → items_of met (s.bytes ++ b ∷ line) ≡ s.serves.done ++ Bye ∷ []
   last_bye b line front clean is over bye =
-      ap (λ e. items_of e (s.bytes ++ b ∷ line)) over.0 ∙ bye_last_items s.bytes s.text records s.serves b line clean (subst IsByeLine is bye)
+      ap (λ e. items_of e (s.bytes ++ b ∷ line)) over.0 ∙ bye_last_items s.bytes s.text records s.serves b line
+      clean (subst IsByeLine is bye)
 
   -- a whole line BYE was answered
-  pub bye_ends : (line front : List ℕ) → NoFeed line → Goes held left held2 after_left (line ++ 10 ∷ []) → front ≡ front_of line → IsByeLine front
+  pub bye_ends : (line front : List ℕ) → NoFeed line → Goes held left held2 after_left (line ++ 10 ∷ [])
+      → front ≡ front_of line → IsByeLine front
       → Appends written now (bye_text (length records)) → EndsWhole left0 written0 after_left met now after
   bye_ends line front clean goes is bye wrote =
-      ends_by left0 written0 left written now after_left ended met held held2 records after None s (IsComplete met after_left)
-      ((s.bytes ++ (line ++ 10 ∷ [])) ++ held2.bytes) (bye_text (length records)) (Bye ∷ []) (line_bye line front clean is bye) bye_given
+      ends_by left0 written0 left written now after_left ended met held held2 records after None s
+      (IsComplete met after_left)
+      ((s.bytes ++ (line ++ 10 ∷ [])) ++ held2.bytes) (bye_text (length records)) (Bye ∷ [])
+      (line_bye line front clean is bye) bye_given
       (taken_line left0 written0 left written now after_left ended met held held2 records after None s line goes) wrote
       (inl (s.serves.done, line_bye line front clean is bye))
 
   -- and its reply was begun
-  pub bye_breaks : (line front : List ℕ) (count : ℕ) → NoFeed line → Goes held left held2 after_left (line ++ 10 ∷ []) → front ≡ front_of line → IsByeLine front
+  pub bye_breaks : (line front : List ℕ) (count : ℕ) → NoFeed line
+      → Goes held left held2 after_left (line ++ 10 ∷ []) → front ≡ front_of line → IsByeLine front
       → Appends written now (take count (bye_text (length records))) → Breaks left0 written0 after_left met now after
   bye_breaks line front count clean goes is bye wrote =
       breaks_by left0 written0 left written now after_left ended met held held2 records after None s
@@ -235,21 +288,28 @@ module _ (left0 written0 left written now after_left : Option (List ℕ)) (ended
       (taken_line left0 written0 left written now after_left ended met held held2 records after None s line goes) wrote
 
   -- a BYE that the end of the input ends was answered
-  pub last_bye_ends : (line front : List ℕ) → Passes held left held2 after_left line → 0 < length line → front ≡ front_of line → IsOver met after_left → IsByeLine front
+  pub last_bye_ends : (line front : List ℕ) → Passes held left held2 after_left line → 0 < length line
+      → front ≡ front_of line → IsOver met after_left → IsByeLine front
       → Appends written now (bye_text (length records)) → EndsWhole left0 written0 after_left met now after
   last_bye_ends [] front passes some is over bye wrote = absurd (omega arith)
   last_bye_ends (b ∷ line) front passes some is over bye wrote =
-      ends_by left0 written0 left written now after_left ended met held held2 records after None s (IsComplete met after_left)
-      (s.bytes ++ b ∷ line) (bye_text (length records)) (Bye ∷ []) (last_bye b line front passes.clean is over bye) bye_given
-      (taken_part left0 written0 left written now after_left ended met held held2 records after None s (b ∷ line) passes) wrote
+      ends_by left0 written0 left written now after_left ended met held held2 records after None s
+      (IsComplete met after_left)
+      (s.bytes ++ b ∷ line) (bye_text (length records)) (Bye ∷ []) (last_bye b line front passes.clean is over bye)
+      bye_given
+      (taken_part left0 written0 left written now after_left ended met held held2 records after None s (b ∷ line)
+      passes) wrote
       (inl (s.serves.done, last_bye b line front passes.clean is over bye))
 
   -- and its reply was begun
-  pub last_bye_breaks : (line front : List ℕ) (count : ℕ) → Passes held left held2 after_left line → 0 < length line → front ≡ front_of line → IsOver met after_left → IsByeLine front
+  pub last_bye_breaks : (line front : List ℕ) (count : ℕ) → Passes held left held2 after_left line → 0 < length line
+      → front ≡ front_of line → IsOver met after_left → IsByeLine front
       → Appends written now (take count (bye_text (length records))) → Breaks left0 written0 after_left met now after
   last_bye_breaks [] front count passes some is over bye wrote = absurd (omega arith)
   last_bye_breaks (b ∷ line) front count passes some is over bye wrote =
       breaks_by left0 written0 left written now after_left ended met held held2 records after None s
       (s.bytes ++ b ∷ line) (bye_text (length records)) (Bye ∷ []) [] count
-      (last_bye b line front passes.clean is over bye ∙ sym (append-nil (s.serves.done ++ Bye ∷ []))) (omega arith) bye_given
-      (taken_part left0 written0 left written now after_left ended met held held2 records after None s (b ∷ line) passes) wrote
+      (last_bye b line front passes.clean is over bye ∙ sym (append-nil (s.serves.done ++ Bye ∷ []))) (omega arith)
+      bye_given
+      (taken_part left0 written0 left written now after_left ended met held held2 records after None s (b ∷ line)
+      passes) wrote

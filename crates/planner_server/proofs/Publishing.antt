@@ -1,5 +1,6 @@
 -- The records of a session by their sheets, and the texts that it may hold.
-use Rattle.std.proofs.Common.{◌≡◌, ℕ, ◌-◌, zero, suc, List, [], ◌∷◌, ◌++◌, length, None, Some, refl, sym, ap, ◌∙◌, ◌+◌, arith, inl, length-append}
+use Rattle.std.proofs.Common.{◌≡◌, ℕ, ◌-◌, zero, suc, List, [], ◌∷◌, ◌++◌, length, None, Some, refl, sym, ap, ◌∙◌}
+use Rattle.std.proofs.Common.{◌+◌, arith, inl, length-append}
 use Rattle.std.specs.Arc.{arc_value}
 use Rattle.std.specs.Global.{Vec}
 use Rattle.std.specs.Option.{option_map}
@@ -36,7 +37,8 @@ slice_get-sheets_of (r ∷ records) (suc i) = slice_get-sheets_of records i
 
 -- the record of the version that is their number is the last of them
 pub record_at-last : (records : List (Arc SheetView Global)) (last : Arc SheetView Global)
-    → Some last ≡ slice_get records (length records - 1) → Some (arc_value last) ≡ record_at (sheets_of records) (length records)
+    → Some last ≡ slice_get records (length records - 1) → Some (arc_value last) ≡ record_at (sheets_of records)
+    (length records)
 record_at-last [] last is = absurd (cc)
 record_at-last (r ∷ records) last is =
     let place : suc (length records) - 1 ≡ length records = omega arith in
@@ -44,15 +46,18 @@ record_at-last (r ∷ records) last is =
     ∙ sym (slice_get-sheets_of (r ∷ records) (length records))
 
 -- a sheet that was published is the next record
-pub published : (kept new : List (Arc SheetView Global)) (record_ : Arc SheetView Global) (sheet : SheetView) (reply : List ℕ)
-    → new ≡ kept ++ record_ ∷ [] → arc_value record_ ≡ sheet → reply ≡ loaded_text (length (sheets_of kept) + 1) sheet.net
+pub published : (kept new : List (Arc SheetView Global)) (record_ : Arc SheetView Global) (sheet : SheetView)
+    (reply : List ℕ)
+    → new ≡ kept ++ record_ ∷ [] → arc_value record_ ≡ sheet → reply ≡ loaded_text (length (sheets_of kept) + 1)
+    sheet.net
     → LoadStep (sheets_of new) (length (sheets_of kept)) (Some sheet) reply (length (sheets_of new))
 published kept new record_ sheet reply is holds text =
     let added : sheets_of new ≡ sheets_of kept ++ sheet ∷ [] =
     ap sheets_of is ∙ sheets_of-push kept record_ ∙ ap (λ s. sheets_of kept ++ s ∷ []) holds in
     inl (
       ap length added ∙ length-append (sheets_of kept) (sheet ∷ []),
-      ap (λ (v : List SheetView). slice_get v (length (sheets_of kept))) added ∙ slice_get-added (sheets_of kept) sheet,
+      ap (λ (v : List SheetView). slice_get v (length (sheets_of kept))) added
+          ∙ slice_get-added (sheets_of kept) sheet,
       text,
     )
 
@@ -65,7 +70,8 @@ length-sheets_of [] = refl
 length-sheets_of (r ∷ records) = omega (arith, length-sheets_of records)
 
 -- a text that is read is open
-pub text_open : (P : Option (List (List ℕ)) → Type 0) (reader : Reading) → ((text : List (List ℕ)) → Holds (Text reader) (Some text) → P (Some text))
+pub text_open : (P : Option (List (List ℕ)) → Type 0) (reader : Reading)
+    → ((text : List (List ℕ)) → Holds (Text reader) (Some text) → P (Some text))
     → (open_text : Option (List (List ℕ))) → Holds (Text reader) open_text → P open_text
 text_open P reader on None h = absurd h
 text_open P reader on (Some text) h = on text h

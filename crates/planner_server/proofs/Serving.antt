@@ -1,5 +1,6 @@
 -- A session goes on by a line, and ends.
-use Rattle.std.proofs.Common.{◌≡◌, ℕ, ◌≤◌, List, [], ◌∷◌, ◌++◌, length, None, Some, Bool, true, false, refl, sym, ap, ◌∙◌, arith, append_assoc, inl, if◌then◌else◌}
+use Rattle.std.proofs.Common.{◌≡◌, ℕ, ◌≤◌, List, [], ◌∷◌, ◌++◌, length, None, Some, Bool, true, false, refl, sym}
+use Rattle.std.proofs.Common.{ap, ◌∙◌, arith, append_assoc, inl, if◌then◌else◌}
 use Rattle.std.proofs.lemmas.List.{append-nil}
 use Rattle.std.specs.declared.option.Option.{Option}
 use Rattle.network_text.specs.Sheets.{SheetView}
@@ -16,7 +17,8 @@ pub begin : Serves [] [] [] None
 begin = record { done = []; quiet = tt; items = λ ended more. refl; answered = (refl, refl) }
 
 -- the items of a line that is no BYE, and of the lines behind it
-items_from-line : (ended : Bool) (text : Option (List (List ℕ))) (line : List ℕ) (lines : List (List ℕ)) → IsQuiet text line
+items_from-line : (ended : Bool) (text : Option (List (List ℕ))) (line : List ℕ) (lines : List (List ℕ))
+    → IsQuiet text line
     → items_from ended text (line ∷ lines) ≡ gives text line ++ items_from ended (next_text text line) lines
 items_from-line ended None line lines quiet = of_kind (is_passed line) (is_load line) (is_bye line) (quiet refl)
   where
@@ -32,8 +34,10 @@ items_from-line ended None line lines quiet = of_kind (is_passed line) (is_load 
 items_from-line ended (Some text) line lines quiet = of_kind (is_end line)
   where
     of_kind : (end : Bool)
-        → (if end then Load text true ∷ items_from ended None lines else items_from ended (Some (text ++ line ∷ [])) lines)
-        ≡ (if end then Load text true ∷ [] else []) ++ items_from ended (if end then None else Some (text ++ line ∷ [])) lines
+        → (if end then Load text true ∷ items_from ended None lines else items_from ended (Some (text ++ line ∷ []))
+        lines)
+        ≡ (if end then Load text true ∷ [] else []) ++ items_from ended
+        (if end then None else Some (text ++ line ∷ [])) lines
     of_kind true = refl
     of_kind false = refl
 
@@ -98,7 +102,8 @@ closes records (Some text) = Gives-same records (Load text false) (refused_text 
 pub bye-gives : (records : List SheetView) → Gives records (Bye ∷ []) (bye_text (length records)) records
 bye-gives records = Gives-same records Bye (bye_text (length records)) (refl, refl)
 
-module _ (bytes text : List ℕ) (records : List SheetView) (open_text : Option (List (List ℕ))) (s : Serves bytes text records open_text) where
+module _ (bytes text : List ℕ) (records : List SheetView) (open_text : Option (List (List ℕ)))
+    (s : Serves bytes text records open_text) where
   -- the items behind a whole line
   pub line_items : (ended : Bool) (line more : List ℕ) → NoFeed line → IsQuiet open_text (front_of line)
       → items_of ended ((bytes ++ (line ++ 10 ∷ [])) ++ more)
@@ -125,7 +130,8 @@ module _ (bytes text : List ℕ) (records : List SheetView) (open_text : Option 
   -- the items of bytes that end behind a line without a line feed
   pub last_items : (b : ℕ) (line : List ℕ) → NoFeed (b ∷ line) → IsQuiet open_text (front_of (b ∷ line))
       → items_of true (bytes ++ b ∷ line)
-      ≡ (s.done ++ gives open_text (front_of (b ∷ line))) ++ items_from true (next_text open_text (front_of (b ∷ line))) []
+      ≡ (s.done ++ gives open_text (front_of (b ∷ line))) ++ items_from true
+      (next_text open_text (front_of (b ∷ line))) []
   last_items b line clean quiet =
       let front = front_of (b ∷ line) in
       s.items true (b ∷ line) ∙ ap (λ ls. s.done ++ items_from true open_text ls) (fronts_of-last b line clean)
@@ -151,7 +157,8 @@ module _ (bytes text : List ℕ) (records : List SheetView) (s : Serves bytes te
   pub bye_items : (ended : Bool) (line more : List ℕ) → NoFeed line → IsByeLine (front_of line)
       → items_of ended (bytes ++ (line ++ 10 ∷ more)) ≡ s.done ++ Bye ∷ []
   bye_items ended line more clean is =
-      s.items ended (line ++ 10 ∷ more) ∙ ap (λ ls. s.done ++ items_from ended None ls) (fronts_of-line ended line more clean)
+      s.items ended (line ++ 10 ∷ more) ∙ ap (λ ls. s.done ++ items_from ended None ls)
+      (fronts_of-line ended line more clean)
       ∙ ap (λ is. s.done ++ is) (items_from-bye ended (front_of line) (fronts_of ended more) is)
 
   -- the items that a BYE without a line feed ends

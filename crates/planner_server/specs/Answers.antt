@@ -1,5 +1,6 @@
 -- Which text answers the items of a session, over the records that it published.
-use Rattle.std.specs.Prelude.{◌≡◌, ℕ, zero, suc, ◌+◌, ◌⊎◌, List, [], ◌∷◌, ◌++◌, Bool, true, false, length, slice_get, Some, None}
+use Rattle.std.specs.Prelude.{◌≡◌, ℕ, zero, suc, ◌+◌, ◌⊎◌, List, [], ◌∷◌, ◌++◌, Bool, true, false, length}
+use Rattle.std.specs.Prelude.{slice_get, Some, None}
 use Rattle.std.specs.declared.option.Option.{Option}
 use Rattle.cut_model.specs.Cuts.{IsLeastCut, set_of}
 use Rattle.network_text.specs.Sheets.{SheetView}
@@ -39,7 +40,8 @@ verdict_of text false = None
 -- A network with this verdict was loaded: a faulty text is refused; a sheet is published as the next record,
 -- or refused where 256 records stand; want of memory may come in place of each of these.
 abbrev pub LoadStep : List SheetView → ℕ → Option SheetView → List ℕ → ℕ → Type 0
-LoadStep records seen None reply next = (next ≡ seen) × ((reply ≡ refused_text seen 9) ⊎ (reply ≡ refused_text seen 90))
+LoadStep records seen None reply next = (next ≡ seen) × ((reply ≡ refused_text seen 9) ⊎
+    (reply ≡ refused_text seen 90))
 LoadStep records seen (Some sheet) reply next =
     ((next ≡ seen + 1) × (slice_get records seen ≡ Some sheet) × (reply ≡ loaded_text (seen + 1) sheet.net))
     ⊎ ((next ≡ seen) × (seen ≡ 256) × (reply ≡ refused_text 256 20))
@@ -52,7 +54,8 @@ Step records seen (Load text whole) reply next = LoadStep records seen (verdict_
 Step records seen Bye reply next = (next ≡ seen) × (reply ≡ bye_text seen)
 
 -- the text begins with the reply to an item, and P holds of the version after it and of the rest of the text
-pub record Begins (records : List SheetView) (seen : ℕ) (item : Item) (text : List ℕ) (P : ℕ → List ℕ → Type 0) : Type 0 where
+pub record Begins (records : List SheetView) (seen : ℕ) (item : Item) (text : List ℕ) (P : ℕ → List ℕ → Type 0) :
+    Type 0 where
   pub reply : List ℕ
   pub rest : List ℕ
   pub next : ℕ
@@ -63,8 +66,10 @@ pub record Begins (records : List SheetView) (seen : ℕ) (item : Item) (text : 
 -- the text is the replies to the items, one after another, from one version to another
 abbrev pub AloneTo : List SheetView → ℕ → List Item → List ℕ → ℕ → Type 0
 AloneTo records seen [] text last = (text ≡ []) × (last ≡ seen)
-AloneTo records seen (item ∷ items) text last = Begins records seen item text (λ next rest. AloneTo records next items rest last)
+AloneTo records seen (item ∷ items) text last = Begins records seen item text
+    (λ next rest. AloneTo records next items rest last)
 
--- The text answers the items over these records and no others: nobody else publishes, and each record is one of the accepted LOADs, in order.
+-- The text answers the items over these records and no others: nobody else publishes, and each record is one of the
+-- accepted LOADs, in order.
 abbrev pub Alone : List SheetView → ℕ → List Item → List ℕ → Type 0
 Alone records seen items text = AloneTo records seen items text (length records)

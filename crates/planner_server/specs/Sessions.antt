@@ -10,9 +10,11 @@ use Rattle.planner_server.specs.Answers.{Alone, AloneTo}
 use Rattle.planner_server.specs.Modes.{Serves}
 use Rattle.text_forms.specs.Items.{Item, Bye, NoBye, items_of}
 
--- What was taken and written since the start of a session, and what lies ahead now. `left0` and `written0` are what the source
+-- What was taken and written since the start of a session, and what lies ahead now. `left0` and `written0` are what
+-- the source
 -- had left and the sink had written then.
-pub record SoFar (left0 written0 : Option (List ℕ)) (held : Held) (left : Option (List ℕ)) (ended : Bool) (written : Option (List ℕ))
+pub record SoFar (left0 written0 : Option (List ℕ)) (held : Held) (left : Option (List ℕ)) (ended : Bool)
+    (written : Option (List ℕ))
     (records : List SheetView) (open_text : Option (List (List ℕ))) : Type 0 where
   pub bytes : List ℕ
   pub text : List ℕ
@@ -24,7 +26,8 @@ pub record SoFar (left0 written0 : Option (List ℕ)) (held : Held) (left : Opti
 
 -- The text that was written answers the whole items of the bytes that were taken, over these records and no others,
 -- and P holds of these bytes and items.
-pub record Ends (P : List ℕ → List Item → Type 0) (left0 written0 left : Option (List ℕ)) (ended : Bool) (written : Option (List ℕ))
+pub record Ends (P : List ℕ → List Item → Type 0) (left0 written0 left : Option (List ℕ)) (ended : Bool)
+    (written : Option (List ℕ))
     (records : List SheetView) : Type 0 where
   pub bytes : List ℕ
   pub text : List ℕ
@@ -46,7 +49,8 @@ abbrev pub IsCutShort : Bool → List ℕ → List Item → Type 0
 IsCutShort ended bytes items = (length bytes < 2 ^ 30) × (ended ≡ false) × NoBye items
 
 -- The text that was written answers a front of the whole items, but for a part of the reply to the last of them.
-pub record Breaks (left0 written0 left : Option (List ℕ)) (ended : Bool) (written : Option (List ℕ)) (records : List SheetView) : Type 0 where
+pub record Breaks (left0 written0 left : Option (List ℕ)) (ended : Bool) (written : Option (List ℕ))
+    (records : List SheetView) : Type 0 where
   pub bytes : List ℕ
   pub earlier : List Item
   pub last : List Item
@@ -63,13 +67,17 @@ pub record Breaks (left0 written0 left : Option (List ℕ)) (ended : Bool) (writ
   pub wrote : Appends written0 written (text ++ take count reply)
 
 -- a session that read to its end, or to a BYE
-abbrev pub EndsWhole : Option (List ℕ) → Option (List ℕ) → Option (List ℕ) → Bool → Option (List ℕ) → List SheetView → Type 0
-EndsWhole left0 written0 left ended written records = Ends (IsComplete ended left) left0 written0 left ended written records
+abbrev pub EndsWhole : Option (List ℕ) → Option (List ℕ) → Option (List ℕ) → Bool → Option (List ℕ) → List SheetView
+    → Type 0
+EndsWhole left0 written0 left ended written records = Ends (IsComplete ended left) left0 written0 left ended written
+    records
 
 -- a session whose source failed
-abbrev pub EndsShort : Option (List ℕ) → Option (List ℕ) → Option (List ℕ) → Bool → Option (List ℕ) → List SheetView → Type 0
+abbrev pub EndsShort : Option (List ℕ) → Option (List ℕ) → Option (List ℕ) → Bool → Option (List ℕ) → List SheetView
+    → Type 0
 EndsShort left0 written0 left ended written records = Ends (IsCutShort ended) left0 written0 left ended written records
 
 -- a session that was sent too much
-abbrev pub EndsLong : Option (List ℕ) → Option (List ℕ) → Option (List ℕ) → Bool → Option (List ℕ) → List SheetView → Type 0
+abbrev pub EndsLong : Option (List ℕ) → Option (List ℕ) → Option (List ℕ) → Bool → Option (List ℕ) → List SheetView
+    → Type 0
 EndsLong left0 written0 left ended written records = Ends (IsTooLong ended) left0 written0 left ended written records

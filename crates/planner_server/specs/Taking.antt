@@ -10,7 +10,8 @@ use Rattle.planner_server.specs.declared.intake.Taken.{Taken}
 use Rattle.planner_server.specs.declared.intake.Taken.TheVariants.{Silent, Reply, Bye}
 use Rattle.query_lang.specs.Replies.{bye_text}
 
--- the text that is open: none between two items, and else its lines so far, which a reader has read unless memory was wanted
+-- the text that is open: none between two items, and else its lines so far, which a reader has read unless memory
+-- was wanted
 abbrev pub Holds : Intake → Option (List (List ℕ)) → Type 0
 Holds Between None = Unit {0}
 Holds Between (Some text) = ⊥
@@ -20,20 +21,23 @@ Holds Lost None = ⊥
 Holds Lost (Some text) = Unit {0}
 
 -- a line that is no BYE was taken: the items that it makes whole are answered by the text, from these records to those
-pub record IsTaken (old new : List SheetView) (open_text : Option (List (List ℕ))) (intake : Intake) (line text : List ℕ) : Type 0 where
+pub record IsTaken (old new : List SheetView) (open_text : Option (List (List ℕ))) (intake : Intake)
+    (line text : List ℕ) : Type 0 where
   pub quiet : IsQuiet open_text line
   pub given : Gives old (gives open_text line) text new
   pub holds : Holds intake (next_text open_text line)
 
 -- a BYE was taken: nothing is published, and this is its reply
-pub record IsByeTaken (old new : List SheetView) (open_text : Option (List (List ℕ))) (line reply : List ℕ) : Type 0 where
-  pub between : open_text ≡ None
-  pub bye : IsByeLine line
-  pub same : new ≡ old
-  pub text : reply ≡ bye_text (length old)
+pub record IsByeTaken (old new : List SheetView) (open_text : Option (List (List ℕ))) (line reply : List ℕ) : Type 0
+  where
+    pub between : open_text ≡ None
+    pub bye : IsByeLine line
+    pub same : new ≡ old
+    pub text : reply ≡ bye_text (length old)
 
 -- what a line led to, and the reply that was made
-abbrev pub LineTaken : List SheetView → List SheetView → Option (List (List ℕ)) → Intake → List ℕ → List ℕ → Taken → Type 0
+abbrev pub LineTaken : List SheetView → List SheetView → Option (List (List ℕ)) → Intake → List ℕ → List ℕ → Taken
+    → Type 0
 LineTaken old new open_text intake line reply Silent = IsTaken old new open_text intake line []
 LineTaken old new open_text intake line reply Reply = IsTaken old new open_text intake line reply
 LineTaken old new open_text intake line reply Bye = IsByeTaken old new open_text line reply

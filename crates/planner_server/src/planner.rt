@@ -1,5 +1,6 @@
 //! The top call.
-ghost use Rattle.std.specs.Prelude.{◌≡◌, ℕ, ◌+◌, ◌^◌, ◌≤◌, ◌↔◌, ◌⊎◌, ◌++◌, List, [], Some, None, true, false, length, map, IfOk, IsTrue};
+ghost use Rattle.std.specs.Prelude.{◌≡◌, ℕ, ◌+◌, ◌^◌, ◌≤◌, ◌↔◌, ◌⊎◌, ◌++◌, List, [], Some, None, true, false};
+ghost use Rattle.std.specs.Prelude.{length, map, IfOk, IsTrue};
 ghost use Rattle.std.specs.String.{string_bytes};
 ghost use Rattle.planner_server.specs.Commands.{IsPlan};
 ghost use Rattle.planner_server.specs.Records.{sheets_of};
@@ -79,11 +80,14 @@ impl From<SessionEnd> for Status {
 
 /// Runs the command that the words name; for now `plan` alone, one session over the source and the sink.
 ///
-/// The session reads request lines to the end of the input or to BYE, and puts one reply for each item. The contract says
-/// for each status what was written: with the bytes that were taken from the source, the replies to their whole items over
+/// The session reads request lines to the end of the input or to BYE, and puts one reply for each
+/// item. The contract says
+/// for each status what was written: with the bytes that were taken from the source, the replies to
+/// their whole items over
 /// the records that are handed back. What a source or a sink doesn't tell of its bytes is left open.
 ///
-/// `NoMemory` comes only before the first read. A run reads at most 2^30 bytes, keeps at most 256 records, and takes about
+/// `NoMemory` comes only before the first read. A run reads at most 2^30 bytes, keeps at most 256
+/// records, and takes about
 /// half a megabyte for each record of the largest network, and about a megabyte beside.
 pub fn run<S: Source, K: Sink>(
     alloc: Global,

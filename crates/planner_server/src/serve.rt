@@ -1,5 +1,6 @@
 //! The loop of a session over a source and a sink.
-ghost use Rattle.std.specs.Prelude.{◌≡◌, ℕ, ◌+◌, ◌-◌, ◌^◌, ◌<◌, ◌≤◌, List, [], Bool, true, false, None, Some, MatchResult, length};
+ghost use Rattle.std.specs.Prelude.{◌≡◌, ℕ, ◌+◌, ◌-◌, ◌^◌, ◌<◌, ◌≤◌, List, [], Bool, true, false, None, Some};
+ghost use Rattle.std.specs.Prelude.{MatchResult, length};
 ghost use Rattle.std.specs.declared.option.Option.{Option};
 ghost use Rattle.line_reader.specs.Passing.{Passes};
 ghost use Rattle.line_reader.specs.Held.{Held};

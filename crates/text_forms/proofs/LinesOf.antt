@@ -1,10 +1,12 @@
 -- The lines and the items of bytes that come piece by piece.
-use Rattle.std.proofs.Common.{◌≡◌, ◌≢◌, ℕ, List, [], ◌∷◌, ◌++◌, map, Bool, true, false, refl, sym, ap, ◌∙◌, ne_eqb, cond, All, eqb}
+use Rattle.std.proofs.Common.{◌≡◌, ◌≢◌, ℕ, List, [], ◌∷◌, ◌++◌, map, Bool, true, false, refl, sym, ap, ◌∙◌, ne_eqb}
+use Rattle.std.proofs.Common.{cond, All, eqb}
 use Rattle.std.proofs.lemmas.List.Elements.{All-head, All-tail}
 use Rattle.text_forms.specs.Lines.{NoFeed, front_of, fronts_of, lines_of, join_byte}
 
 -- the first line of bytes
-pub lines_of-line : (ended : Bool) (line more : List ℕ) → NoFeed line → lines_of ended (line ++ 10 ∷ more) ≡ line ∷ lines_of ended more
+pub lines_of-line : (ended : Bool) (line more : List ℕ) → NoFeed line
+    → lines_of ended (line ++ 10 ∷ more) ≡ line ∷ lines_of ended more
 lines_of-line ended [] more clean = refl
 lines_of-line ended (b ∷ line) more clean =
     rw (ne_eqb b 10 (All-head (λ x. x ≢ 10) b line clean))

@@ -5,7 +5,8 @@ use Rattle.planner_server.proofs.serve.serve.Given as goal
 
 abbrev pub invariant-lines : goal.invariant-lines
 invariant-lines g l = record {
-  so_far : GoesOn (g.S.Source.left l.fn.source) (g.K.Sink.written l.fn.sink) l.reader (g.S.Source.left l.source) (g.S.Source.ended l.source)
+  so_far : GoesOn (g.S.Source.left l.fn.source) (g.K.Sink.written l.fn.sink) l.reader (g.S.Source.left l.source)
+      (g.S.Source.ended l.source)
       (g.K.Sink.written l.sink) (sheets_of l.session.records.items) l.session.intake;
   budget : l.reader.taken ≤ 2 ^ 30;
   reads : g.S.Source.read_faults l.fn.source ≤ g.S.Source.read_faults l.source;

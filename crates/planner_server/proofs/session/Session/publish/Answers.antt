@@ -4,7 +4,8 @@ use Rattle.planner_server.proofs.session.Session.publish.Goals as goal
 
 pub returns-in-Ok-clause-step : goal.returns-in-Ok-clause-step
 returns-in-Ok-clause-step c =
-    published c.args.self.now.records.items c.push_reserved.new.self.items c.in-Ok.record c.args.sheet c.loaded_reply.new.buffer
+    published c.args.self.now.records.items c.push_reserved.new.self.items c.in-Ok.record c.args.sheet
+    c.loaded_reply.new.buffer
     c.push_reserved.ensures.items (c.in-Ok.ensures.ok ∙ c.make.ensures)
     (rw (c.version-version.ensures.version, c.deref.ensures, c.net.ensures.value) at c.loaded_reply.ensures)
 
