@@ -33,6 +33,7 @@ const MIXED_REPLIES: &str =
     "@0 NO 9\n@0 NO 9\n@0 NO 9\n@1 LOADED routers 2 links 1\n@1 NO 9\n@1 CUT 5 side b\n";
 
 /// How a run ended, what was written, and how many records were handed back.
+#[derive(Drop)]
 struct Ended {
     status: Status,
     written: Vec<u8>,
