@@ -2,6 +2,7 @@
 use Rattle.std.proofs.Common.{◌≡◌, ℕ, ◌+◌, ◌%◌, ◌^◌, ◌<◌, bit_or, arith, ap, sym, ◌∙◌}
 use Rattle.std.specs.Int.{bit_at}
 use Rattle.std.specs.Int.RustNames.{bit_xor}
+use Rattle.std.specs.Int.Bits.{xor_self}
 use Rattle.std.proofs.lemmas.Nat.{le_or_l, le_or_r}
 use Rattle.std.proofs.lemmas.Nat.Bits.{bit_at_xor, bit_at-zero, same_from_bits_below}
 
@@ -30,3 +31,12 @@ same_words a b c d sa sb sc sd none = (
   same_word a b sa sb (none_left (bit_xor a b) (bit_xor c d) none),
   same_word c d sc sd (none_right (bit_xor a b) (bit_xor c d) none),
 )
+
+-- and equal words differ in no bit
+pub no_difference : (a b c d : ℕ) → a ≡ b → c ≡ d → bit_or (bit_xor a b) (bit_xor c d) ≡ 0
+no_difference a b c d first second =
+    (λ i. bit_or (bit_xor a (sym first i)) (bit_xor c (sym second i))) ∙ (λ i. bit_or (xor_self a i) (xor_self c i))
+
+-- words with no bit set have none together
+pub none_together : (a b : ℕ) → a ≡ 0 → b ≡ 0 → bit_or a b ≡ 0
+none_together a b first second = λ i. bit_or (first i) (second i)

@@ -68,7 +68,7 @@ kept c =
     (c.set_left.new.left ++ drop (length c.set_left.new.left) c.self.inside.left.items)) =
     subst (HasCaps c.links-links.result.now) (sym same) c.set_left.ensures in
     let goes : HasHeads c.links-links.result.now c.self.inside.head.items =
-    subst (HasHeads c.links-links.result.now) c.deref.ensures.value (c.has_heads.ensures c.if-has_heads.true) in
+    subst (HasHeads c.links-links.result.now) c.deref.ensures.value (c.has_heads.ensures.0 c.if-has_heads.true) in
     loaded c.self.inside.room_routers c.self.inside.room_links c.self.inside.routers c.self.inside.links
     c.self.inside.first.items
     c.self.inside.order.items c.self.inside.heads.items c.self.inside.head.items c.self.inside.left.items
