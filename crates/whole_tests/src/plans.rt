@@ -95,8 +95,8 @@ fn replies_are_the_same_in_whatever_pieces_the_input_comes(rt: HostRuntime) -> R
 
 #[test]
 fn a_read_that_fails_leaves_whole_replies(rt: HostRuntime) -> Result<(), Fail> {
-    // Pieces of 8 bytes: the first 3 reads are of the text, the 4th ends with the CUT line.
-    for read in 1u32..6 {
+    // In pieces of 8 bytes the third read has the line END, and the fourth the BYE.
+    for read in 1u32..5 {
         let ended = plan(rt.alloc(), FIRST, 8, Some(read), AMPLE, None)?;
         assert_eq!(rt; ended.status, Status::ReadFault);
         assert!(rt; FIRST_REPLIES.as_bytes().starts_with(&ended.written));
@@ -138,5 +138,27 @@ fn words_that_are_no_command_leave_all_as_it_was(rt: HostRuntime) -> Result<(), 
     let outcome = run(rt.alloc(), &[], &mut source, &mut sink);
     assert_eq!(rt; outcome.status, Status::BadWords);
     assert!(rt; sink.written().is_empty() && outcome.records.is_empty());
+    Ok(())
+}
+
+#[test]
+fn the_257th_network_is_refused_and_the_256th_stands(rt: HostRuntime) -> Result<(), Fail> {
+    let mut input = String::new(rt.alloc());
+    for _ in 0..257 {
+        input.push_str("LOAD\nlink a b 5\nEND\n")?;
+    }
+    input.push_str("CUT a b\n")?;
+    for piece in [1usize, 7, 4096] {
+        if piece > 0 {
+            let ended = plan(rt.alloc(), input.as_str(), piece, None, 10_000, None)?;
+            assert_eq!(rt; ended.status, Status::Done);
+            assert_eq!(rt; ended.records, 256);
+            assert!(rt;
+                ended.written.ends_with(
+                    b"@256 LOADED routers 2 links 1\n@256 NO 20\n@256 CUT 5 side a\n",
+                )
+            );
+        }
+    }
     Ok(())
 }
