@@ -2,6 +2,9 @@
 //! writes nothing of its own.
 #![tactic(auto)]
 
+ghost use Rattle.std.specs.Prelude.{◌≡◌};
+ghost use Rattle.planner_main.specs.Codes.{exit_code};
+
 use planner_server::{Status, run};
 use std::env;
 use std::io::{self, ErrorKind};
@@ -15,7 +18,9 @@ fn words(rt: &(impl Env + AllocGlobal)) -> io::Result<Vec<String>> {
 }
 
 /// The exit status that stands for a status.
-fn code_of(status: Status) -> u8 {
+fn code_of(status: Status) -> u8
+    ensures { result ≡ exit_code status }
+{
     match status {
         Status::Done => 0,
         Status::BadWords => 1,

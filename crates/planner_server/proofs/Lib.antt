@@ -1,3 +1,4 @@
+pub mod Examples
 pub mod Answering
 pub mod Serving
 pub mod Ending
