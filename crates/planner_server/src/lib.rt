@@ -1,8 +1,8 @@
 //! The planner: one session of request lines over a source and a sink.
 //!
-//! `run` answers each item of the input from the networks that it has loaded, and its contract says
-//! of every end what was
-//! written: the replies to the items that were read, over the records that it hands back and no others.
+//! `run` answers each item of the input from the networks that it has loaded. Its contract says of
+//! every end what was written: the replies to the items that were read, over the records that it
+//! hands back and no others.
 #![tactic(auto)]
 
 mod intake;

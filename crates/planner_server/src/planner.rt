@@ -78,17 +78,16 @@ impl From<SessionEnd> for Status {
     }
 }
 
-/// Runs the command that the words name; for now `plan` alone, one session over the source and the sink.
+/// Runs the command that the words name; for now `plan` alone, one session over the source and the
+/// sink.
 ///
 /// The session reads request lines to the end of the input or to BYE, and puts one reply for each
-/// item. The contract says
-/// for each status what was written: with the bytes that were taken from the source, the replies to
-/// their whole items over
-/// the records that are handed back. What a source or a sink doesn't tell of its bytes is left open.
+/// item. The contract says for each status what was written: the replies to the whole items of the
+/// bytes that were taken, over the records that are handed back. What a source or a sink doesn't tell
+/// of its bytes is left open.
 ///
-/// `NoMemory` comes only before the first read. A run reads at most 2^30 bytes, keeps at most 256
-/// records, and takes about
-/// half a megabyte for each record of the largest network, and about a megabyte beside.
+/// `NoMemory` comes only before the first read. A run takes at most 2^30 bytes from its source, keeps
+/// at most 256 records of up to about 200 kB each, and some 500 kB beside.
 pub fn run<S: Source, K: Sink>(
     alloc: Global,
     words: &[String],
@@ -100,6 +99,8 @@ pub fn run<S: Source, K: Sink>(
     // At these two nothing was read or written.
     ensures untouched { (result.status ≡ Status.BadWords) ⊎ (result.status ≡ Status.NoMemory)
         → (source.new ≡ source.old) × (sink.new ≡ sink.old) × (sheets_of result.records.items ≡ []) }
+
+    ensures few { length (sheets_of result.records.items) ≤ 256 }
 
     // What was written answers the whole items of the bytes that were taken, over these records and no others.
     ensures done { result.status ≡ Status.Done
