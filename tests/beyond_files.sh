@@ -59,8 +59,11 @@ END' 'CUT b a' 'X' 'BYE'; do
         printf '%s\n' "$reply"
     done >"$room/stdout"
     trap - PIPE
-    exec 3>&- 4<&-
+    # (its input is still open: after BYE the program reads no more, and ends)
     wait "$!"
+    status=$?
+    exec 3>&- 4<&-
+    return "$status"
 }
 printf '%s\n' '@1 LOADED routers 2 links 1' '@1 CUT 5 side b' '@1 NO 9' '@1 BYE' >"$room/wanted"
 converse

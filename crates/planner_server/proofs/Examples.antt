@@ -64,7 +64,14 @@ answered = record {
       next = 1;
       step = (refl, refl);
       joins = refl;
-      on = record { reply = codes "@1 BYE\n"; rest = []; next = 1; step = (refl, refl); joins = refl; on = (refl, refl) };
+      on = record {
+        reply = codes "@1 BYE\n";
+        rest = [];
+        next = 1;
+        step = (refl, refl);
+        joins = refl;
+        on = (refl, refl);
+      };
     };
   };
 }

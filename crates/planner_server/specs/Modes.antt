@@ -26,8 +26,7 @@ abbrev pub Gives : List SheetView → List Item → List ℕ → List SheetView 
 Gives old items text new = Grows old new × AloneTo new (length old) items text (length new)
 
 -- The bytes were answered by the text, up to a text that is open. Whatever bytes come, the whole items are those
--- that are done
--- and then those from here on.
+-- that are done and then those from here on.
 pub record Serves (bytes text : List ℕ) (records : List SheetView) (open_text : Option (List (List ℕ))) : Type 0 where
   pub done : List Item
   pub quiet : NoBye done

@@ -10,9 +10,8 @@ use Rattle.planner_server.specs.Answers.{Alone, AloneTo}
 use Rattle.planner_server.specs.Modes.{Serves}
 use Rattle.text_forms.specs.Items.{Item, Bye, NoBye, items_of}
 
--- What was taken and written since the start of a session, and what lies ahead now. `left0` and `written0` are what
--- the source
--- had left and the sink had written then.
+-- What was taken and written since the start of a session, and what lies ahead now. `left0` and `written0` are
+-- what the source had left and the sink had written then.
 pub record SoFar (left0 written0 : Option (List ℕ)) (held : Held) (left : Option (List ℕ)) (ended : Bool)
     (written : Option (List ℕ))
     (records : List SheetView) (open_text : Option (List (List ℕ))) : Type 0 where

@@ -23,6 +23,7 @@ pub enum Status {
 /// What a run leaves.
 #[derive(Drop)]
 pub struct Outcome {
+    /// How it ended.
     pub status: Status,
     /// The networks that were published, version 1 first: at most 256.
     pub records: Vec<Arc<Record>>,

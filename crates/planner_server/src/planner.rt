@@ -122,9 +122,13 @@ pub fn run<S: Source, K: Sink>(
     ensures read_cause { result.status ≡ Status.ReadFault → Rose (S.read_faults source.old) (S.read_faults source.new) }
     ensures write_cause { result.status ≡ Status.WriteFault → Rose (K.write_faults sink.old) (K.write_faults sink.new) }
 
+    // No count of faults falls.
+    ensures reads { S.read_faults source.old ≤ S.read_faults source.new }
+    ensures writes { K.write_faults sink.old ≤ K.write_faults sink.new }
+
     // Too many bytes always end so, where no put failed.
-    ensures always_too_long { (taken rest : List ℕ) → S.left source.old ≡ Some (taken ++ rest) → S.left source.new ≡ Some rest
-        → length taken ≡ 2 ^ 30 → S.ended source.new ≡ false → NoBye (items_of false taken)
+    ensures always_too_long { (taken rest : List ℕ) → S.left source.old ≡ Some (taken ++ rest)
+        → S.left source.new ≡ Some rest → length taken ≡ 2 ^ 30 → S.ended source.new ≡ false → NoBye (items_of false taken)
         → (Rose (K.write_faults sink.old) (K.write_faults sink.new) → ⊥) → result.status ≡ Status.TooLong }
 
     // Nothing else of the two objects changed.

@@ -121,8 +121,10 @@ fn turn<S: Source, K: Sink>(
         (sheets_of session.old.records.items) session.old.intake
         → TurnGives left0 written0 reader.new (S.left source.new) (S.ended source.new) (K.written sink.new)
         (sheets_of session.new.records.items) session.new.intake result }
-    ensures read_fault { result ≡ Some SessionEnd.ReadFault → Rose (S.read_faults source.old) (S.read_faults source.new) }
-    ensures write_fault { result ≡ Some SessionEnd.WriteFault → Rose (K.write_faults sink.old) (K.write_faults sink.new) }
+    ensures read_fault { result ≡ Some SessionEnd.ReadFault
+        → Rose (S.read_faults source.old) (S.read_faults source.new) }
+    ensures write_fault { result ≡ Some SessionEnd.WriteFault
+        → Rose (K.write_faults sink.old) (K.write_faults sink.new) }
     ensures reads { S.read_faults source.old ≤ S.read_faults source.new }
     ensures writes { K.write_faults sink.old ≤ K.write_faults sink.new }
     ensures beside_source { S.beside_source source.new ≡ S.beside_source source.old }

@@ -66,6 +66,26 @@ fn latest(records: &[Arc<Record>]) -> Option<&Record>
     }
 }
 
+/// The sheet of the last record, if there is one.
+fn latest_sheet(records: &[Arc<Record>]) -> Option<&Sheet>
+    ensures { option_copied result ≡ record_at (sheets_of records.now) (length records.now) }
+{
+    match latest(records) {
+        Some(record) => Some(record.sheet()),
+        None => None,
+    }
+}
+
+/// Begins to read a text.
+fn begin_text(alloc: Global) -> Intake
+    ensures { Holds result (Some []) }
+{
+    match Reader::begin(alloc) {
+        Ok(reader) => Intake::Text(reader),
+        Err(NoMemory) => Intake::Lost,
+    }
+}
+
 /// Makes the reply to a CUT of two routers of a record, by a flow of its own.
 fn answer_cut(
     desk: &mut PathDesk,
@@ -116,7 +136,7 @@ impl Session {
         self.records.len() as u32
     }
 
-    // Makes a refusal by the version that stands.
+    /// Makes a refusal by the version that stands.
     fn refuse(&mut self, number: u32)
         ensures reply { self.new.reply ≡ refused_text (length (sheets_of self.old.records.items)) number }
         ensures records { self.new.records ≡ self.old.records }
@@ -140,7 +160,7 @@ impl Session {
         }
     }
 
-    // Takes a line between two items.
+    /// Takes a line between two items.
     fn take_request(&mut self, alloc: Global, line: &[u8]) -> Taken
         requires between { Holds self.old.intake None }
         ensures taken { LineTaken (sheets_of self.old.records.items) (sheets_of self.new.records.items)
@@ -168,9 +188,10 @@ impl Session {
         }
     }
 
-    // Makes the reply to a CUT of two routers of the last record.
+    /// Makes the reply to a CUT of two routers of the last record.
     fn cut(&mut self, a: u32, b: u32)
-        requires ends { HasEnds (record_at (sheets_of self.old.records.items) (length self.old.records.items)) (Request.Cut a b) }
+        requires ends { HasEnds (record_at (sheets_of self.old.records.items) (length self.old.records.items))
+            (Request.Cut a b) }
         ensures reply { IfSome (record_at (sheets_of self.old.records.items) (length self.old.records.items)) (λ sheet.
             RepliesTo sheet (length self.old.records.items) (Some (a, b)) self.new.reply) }
         ensures records { self.new.records ≡ self.old.records }
@@ -183,7 +204,7 @@ impl Session {
         answer_cut(&mut self.desk, &mut self.reply, version, record, a, b);
     }
 
-    // Takes a line of a text that is read.
+    /// Takes a line of a text that is read.
     fn take_text(&mut self, alloc: Global, mut reader: Reader, line: &[u8]) -> Taken
         ensures taken { (text : List (List ℕ)) → Holds (Intake.Text reader) (Some text)
             → LineTaken (sheets_of self.old.records.items) (sheets_of self.new.records.items)
@@ -202,7 +223,7 @@ impl Session {
         }
     }
 
-    // Takes a line of a text that is passed over.
+    /// Takes a line of a text that is passed over.
     fn take_lost(&mut self, line: &[u8]) -> Taken
         ensures taken { (text : List (List ℕ))
             → LineTaken (sheets_of self.old.records.items) (sheets_of self.new.records.items)
@@ -218,7 +239,7 @@ impl Session {
         }
     }
 
-    // Answers a text whose END came.
+    /// Answers a text whose END came.
     fn end_text(&mut self, alloc: Global, reader: Reader)
         ensures step { IsFalse reader.lost
             → LoadStep (sheets_of self.new.records.items) (length (sheets_of self.old.records.items))
@@ -235,7 +256,7 @@ impl Session {
         }
     }
 
-    // Publishes a sheet as the next record, where there is room and memory for it.
+    /// Publishes a sheet as the next record, where there is room and memory for it.
     fn publish(&mut self, alloc: Global, sheet: Sheet)
         ensures step { LoadStep (sheets_of self.new.records.items) (length (sheets_of self.old.records.items))
             (Some sheet) self.new.reply (length (sheets_of self.new.records.items)) }
@@ -264,25 +285,5 @@ impl Session {
         }
         self.refuse(NOT_BUILT);
         true
-    }
-}
-
-/// The sheet of the last record, if there is one.
-fn latest_sheet(records: &[Arc<Record>]) -> Option<&Sheet>
-    ensures { option_copied result ≡ record_at (sheets_of records.now) (length records.now) }
-{
-    match latest(records) {
-        Some(record) => Some(record.sheet()),
-        None => None,
-    }
-}
-
-/// Begins to read a text.
-fn begin_text(alloc: Global) -> Intake
-    ensures { Holds result (Some []) }
-{
-    match Reader::begin(alloc) {
-        Ok(reader) => Intake::Text(reader),
-        Err(NoMemory) => Intake::Lost,
     }
 }
