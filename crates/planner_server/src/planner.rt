@@ -128,7 +128,8 @@ pub fn run<S: Source, K: Sink>(
 
     // Too many bytes always end so, where no put failed.
     ensures always_too_long { (taken rest : List ℕ) → S.left source.old ≡ Some (taken ++ rest)
-        → S.left source.new ≡ Some rest → length taken ≡ 2 ^ 30 → S.ended source.new ≡ false → NoBye (items_of false taken)
+        → S.left source.new ≡ Some rest → length taken ≡ 2 ^ 30 → S.ended source.new ≡ false
+        → NoBye (items_of false taken)
         → (Rose (K.write_faults sink.old) (K.write_faults sink.new) → ⊥) → result.status ≡ Status.TooLong }
 
     // Nothing else of the two objects changed.
