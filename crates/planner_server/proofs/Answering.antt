@@ -40,6 +40,7 @@ slice_get-seam : (xs : List SheetView) (x : SheetView) (ys : List SheetView)
 slice_get-seam [] x ys = refl
 slice_get-seam (a ∷ xs) x ys = slice_get-seam xs x ys
 
+-- the record of a version stays where records are added behind
 record_at-grown : (records more : List SheetView) (version : ℕ) → version ≤ length records
     → record_at (records ++ more) version ≡ record_at records version
 record_at-grown records more zero low = refl
@@ -58,6 +59,7 @@ Step-within records seen (Load text whole) reply next step low = of_load (verdic
     of_load (Some sheet) (inr (inl step)) = omega (arith, step.0)
     of_load (Some sheet) (inr (inr step)) = omega (arith, step.0)
 
+-- a step stays right where records are added behind
 Step-grown : (records more : List SheetView) (seen : ℕ) (item : Item) (reply : List ℕ) (next : ℕ)
     → Step records seen item reply next → seen ≤ length records → Step (records ++ more) seen item reply next
 Step-grown records more seen (Ask line) reply next step low = (
@@ -75,6 +77,7 @@ Step-grown records more seen (Load text whole) reply next step low = of_load (ve
         inl (step.0, slice_get-grown records more seen (slice_get-within records seen sheet step.1) ∙ step.1, step.2)
     of_load (Some sheet) (inr step) = inr step
 
+-- and so do the steps of a stretch of items
 AloneTo-grown : (records more : List SheetView) (seen : ℕ) (items : List Item) (text : List ℕ) (last : ℕ)
     → AloneTo records seen items text last → seen ≤ length records → AloneTo (records ++ more) seen items text last
 AloneTo-grown records more seen [] text last p low = p
@@ -100,6 +103,7 @@ AloneTo-grow records all seen items text last grows p low =
 pub Grows-trans : (a b c : List SheetView) → Grows a b → Grows b c → Grows a c
 Grows-trans a b c p q = (p.0 ++ q.0, q.1 ∙ ap (λ v. v ++ q.0) p.1 ∙ append_assoc a p.0 q.0)
 
+-- records that are added make the list no shorter
 pub Grows-length : (a b : List SheetView) → Grows a b → length a ≤ length b
 Grows-length a b p = omega (arith, ap length p.1, length-append a p.0)
 

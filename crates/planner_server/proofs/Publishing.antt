@@ -29,6 +29,7 @@ pub sheets_of-grows : (records new : List (Arc SheetView Global)) (record_ : Arc
     → new ≡ records ++ record_ ∷ [] → Grows (sheets_of records) (sheets_of new)
 sheets_of-grows records new record_ is = (arc_value record_ ∷ [], ap sheets_of is ∙ sheets_of-push records record_)
 
+-- the sheet at a place is that of the record at it
 slice_get-sheets_of : (records : List (Arc SheetView Global)) (i : ℕ)
     → slice_get (sheets_of records) i ≡ option_map (λ (r : Arc SheetView Global). arc_value r) (slice_get records i)
 slice_get-sheets_of [] i = refl
@@ -65,6 +66,7 @@ published kept new record_ sheet reply is holds text =
 pub same_sheets : (old new : Vec (Arc SheetView Global)) → new ≡ old → sheets_of new.items ≡ sheets_of old.items
 same_sheets old new same = ap (λ (v : Vec (Arc SheetView Global)). sheets_of v.items) same
 
+-- there are as many sheets as records
 pub length-sheets_of : (records : List (Arc SheetView Global)) → length (sheets_of records) ≡ length records
 length-sheets_of [] = refl
 length-sheets_of (r ∷ records) = omega (arith, length-sheets_of records)

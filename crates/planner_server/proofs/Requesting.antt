@@ -34,6 +34,7 @@ tested false true bye ask r is p q s = absurd (q (sym is))
 tested false false true ask r is p q s = absurd (s (sym is))
 tested false false false ask r is p q s = (refl, refl, refl, is)
 
+-- what a request other than these three says of its line
 asked : (sheet : Option SheetView) (line : List ℕ) (r : Request) → r ≡ request_of sheet line → r ≢ Nothing
     → r ≢ Load → r ≢ Bye
     → IsAsk line × (cut_request (cut_of sheet line) ≡ r)
@@ -68,6 +69,7 @@ ask_taken records intake line reply ask holds is = record {
     next_is : next_text None line ≡ None
     next_is = rw (ask.passed, ask.load) refl
 
+-- the refusal is the reply where the line names no two routers
 refused_reply : (sheet : Option SheetView) (version : ℕ) (line reply : List ℕ) → cut_of sheet line ≡ None
     → reply ≡ refused_text version 9
     → IsReply sheet version line reply
@@ -75,6 +77,7 @@ refused_reply None version line reply none is = is
 refused_reply (Some sheet) version line reply none is =
     subst (λ (ends : Option (ℕ × ℕ)). RepliesTo sheet version ends reply) (sym none) is
 
+-- a cut of the two routers is the reply where the line names them
 cut_reply : (sheet : Option SheetView) (version : ℕ) (line reply : List ℕ) (a b : ℕ) → cut_of sheet line ≡ Some (a, b)
     → IfSome sheet (λ s. RepliesTo s version (Some (a, b)) reply) → IsReply sheet version line reply
 cut_reply None version line reply a b some is = absurd (let e : cut_of None line ≡ Some (a, b) = some in cc)

@@ -54,12 +54,14 @@ items_from-bye ended line lines is = of_kind (is_passed line) (is_load line) (is
     of_kind false false true p q r = refl
     of_kind false false false p q r = absurd (cc)
 
+-- two stretches without a BYE
 NoBye-append : (xs ys : List Item) → NoBye xs → NoBye ys → NoBye (xs ++ ys)
 NoBye-append [] ys p q = q
 NoBye-append (Ask line ∷ xs) ys p q = NoBye-append xs ys p q
 NoBye-append (Load text whole ∷ xs) ys p q = NoBye-append xs ys p q
 NoBye-append (Bye ∷ xs) ys p q = absurd p
 
+-- a line that is no BYE makes no BYE whole
 gives-quiet : (text : Option (List (List ℕ))) (line : List ℕ) → NoBye (gives text line)
 gives-quiet None line = of_kind (is_passed line) (is_load line)
   where
