@@ -6,3 +6,4 @@
 
 #[cfg(test)]
 mod plans;
+mod words;

@@ -1,6 +1,7 @@
 //! Runs of `plan` over sources and sinks in memory.
 ghost use Rattle.std.specs.Prelude.{◌<◌};
 
+use crate::words::plan_words;
 use planner_server::{Status, run};
 use std::alloc::Global;
 use std::test::Fail;
@@ -60,7 +61,7 @@ fn plan(
 ) -> Result<Ended, Fail>
     requires { 0 < piece }
 {
-    let words = vec![in alloc; String::from_str(alloc, "plan")?]?;
+    let words = plan_words(alloc)?;
     let bytes = Vec::from_slice(alloc, input.as_bytes())?;
     let mut source = MemorySource::make(bytes, piece, listed(alloc, failing_read)?);
     let mut sink = MemorySink::make(alloc, room, listed(alloc, failing_put)?)?;
