@@ -1,7 +1,6 @@
 //! What is left on the two arcs of each link.
-ghost use Rattle.std.specs.Prelude.{◌≡◌, ◌≢◌, ℕ, ◌+◌, ◌*◌, ◌^◌, ◌<◌, ◌≤◌, length, slice_index};
-ghost use Rattle.residual_graph.specs.Fills.{HasCaps, after};
-ghost use Rattle.residual_graph.specs.Storage.{cap_at, flow_at};
+ghost use Rattle.std.specs.Prelude.{◌≡◌, ◌≢◌, ℕ, ◌+◌, ◌-◌, ◌*◌, ◌^◌, ◌<◌, ◌≤◌, All, length, slice_index};
+ghost use Rattle.residual_graph.specs.Fills.{HasCaps, HasCapsBut, after};
 
 use cut_model::Link;
 
@@ -13,6 +12,22 @@ pub fn set_left(links: &[Link], left: &mut [u64])
     for (i, link) in links.iter().enumerate() {
         left[2 * i] = link.cap;
         left[2 * i + 1] = link.cap;
+    }
+}
+
+/// Leaves the whole capacity of each link on its two arcs, where that is so already for all links
+/// but the touched ones.
+pub fn reset(touched: &[u32], links: &[Link], left: &mut [u64])
+    requires room { 2 * length links.now ≤ length left.old }
+    requires touched { All (λ i. i < length links.now) touched.now }
+    requires others { HasCapsBut links.now left.old touched.now }
+    ensures { HasCaps links.now left.new }
+{
+    for link in touched {
+        let link = *link as usize;
+        let cap = links[link].cap;
+        left[2 * link] = cap;
+        left[2 * link + 1] = cap;
     }
 }
 
@@ -28,18 +43,4 @@ pub fn move_amount(left: &mut [u64], from: u32, to: u32, amount: u64)
 {
     left[from as usize] -= amount;
     left[to as usize] += amount;
-}
-
-/// The flow on a link from its end a to its end b: half of what its arc back has left more than the
-/// one there.
-#[inline(always)]
-pub fn flow_of_pair(left: &[u64], link: u32) -> i64
-    requires inside { 2 * link + 1 < length left.now }
-    requires pair { slice_index left.now (2 * link) + slice_index left.now (2 * link + 1) ≡ 2 * cap_at left.now link }
-    requires cap { cap_at left.now link ≤ 1000000000000 }
-    ensures { result ≡ flow_at left.now link }
-{
-    let there = left[2 * link as usize];
-    let back = left[2 * link as usize + 1];
-    (back as i64 - there as i64) / 2
 }
