@@ -1,2 +1,5 @@
 pub mod Levels
 pub mod Searching
+pub mod Sending
+pub mod Phases
+pub mod Room
