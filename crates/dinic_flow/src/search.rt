@@ -117,13 +117,14 @@ fn lower(label: &mut [u32], queue: &[u32], fall: u32) {
 /// at most once.
 ///
 /// Where they join, `label` has the levels. Where they don't, `ahead` begins with the routers that s
-/// reaches.
+/// reaches. What `far` and `behind` hold afterwards means nothing.
 pub fn search<L: Ledger>(
     graph: &Residual,
     s: u32,
     t: u32,
     least: u64,
     label: &mut [u32],
+    far: &mut [u32],
     ahead: &mut [u32],
     behind: &mut [u32],
     steps: &mut Steps<L>,
@@ -133,6 +134,7 @@ pub fn search<L: Ledger>(
     requires s { s < graph.now.net.routers }
     requires t { t < graph.now.net.routers }
     requires label { length label.old ≡ graph.now.net.routers }
+    requires far { length far.old ≡ graph.now.net.routers }
     requires ahead { length ahead.old ≡ graph.now.net.routers }
     requires behind { length behind.old ≡ graph.now.net.routers }
     ensures found { IsFound graph.now least s t label.new ahead.new result }
