@@ -1,3 +1,4 @@
 pub mod Pushes
 pub mod Sending
-pub mod Places
+pub mod Relays
+pub mod Advancing
