@@ -5,4 +5,5 @@
 #![tactic(auto)]
 
 mod blocking;
+mod flow;
 mod search;
