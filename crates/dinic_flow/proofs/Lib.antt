@@ -4,3 +4,4 @@ pub mod Relays
 pub mod Advancing
 pub mod Farther
 pub mod Flows
+pub mod Growing
