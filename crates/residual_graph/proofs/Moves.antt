@@ -1,6 +1,6 @@
 -- What a push makes of what is left on the arcs, and what no flow leaves.
 use Rattle.std.proofs.Common.{◌≡◌, ◌≢◌, ℕ, ◌+◌, ◌-◌, ◌*◌, ◌/◌, ◌%◌, ◌^◌, ◌<◌, ◌≤◌, Bool, true, false, List, [], ◌∷◌}
-use Rattle.std.proofs.Common.{length, get_or, set, replicate, ◌++◌, refl, sym, ap, ◌∙◌, subst, inl, inr, arith, length-append}
+use Rattle.std.proofs.Common.{length, get_or, set, replicate, refl, sym, ap, ◌∙◌, subst, inl, inr, arith, length-append}
 use Rattle.std.specs.Prelude.{ℤ, pos, neg_ℤ, ◌+ℤ◌, ◌-ℤ◌, All, nat_lt}
 use Rattle.std.specs.Int.RustNames.{bit_xor}
 use Rattle.std.specs.Int.Bits.{xor_zero_r}
@@ -15,7 +15,7 @@ use Rattle.cut_model.specs.declared.network.Link.{Link}
 use Rattle.residual_graph.specs.Arcs.{no_link, turned, twin}
 use Rattle.residual_graph.specs.Fills.{HasCap, HasCaps, HasCapsBut, after}
 use Rattle.residual_graph.specs.Storage.{flow_at, flows_at, ArePairs}
-use Rattle.residual_graph.specs.Touched.{Touches, noted, noted_if}
+use Rattle.residual_graph.specs.Touched.{Touches, noted_if}
 use Rattle.residual_graph.specs.View.{pushed}
 use Rattle.residual_graph.proofs.Views.{there_or_back, length-flows_at, get_or-flows_at}
 

@@ -1,6 +1,6 @@
 -- What a call that reads may rely on at a router, at a place, at an arc and at a link.
-use Rattle.std.proofs.Common.{◌≡◌, ℕ, ◌+◌, ◌-◌, ◌*◌, ◌/◌, ◌%◌, ◌<◌, ◌≤◌, List, length}
-use Rattle.std.proofs.Common.{get_or, take, refl, sym, ap, ◌∙◌, subst, inl, inr, arith}
+use Rattle.std.proofs.Common.{◌≡◌, ℕ, ◌+◌, ◌-◌, ◌*◌, ◌<◌, ◌≤◌, List, length}
+use Rattle.std.proofs.Common.{get_or, take, sym, ap, ◌∙◌, subst, inl, inr, arith}
 use Rattle.std.specs.Prelude.{pos, ◌-ℤ◌}
 use Rattle.std.proofs.lemmas.Bool.{cases_lt}
 use Rattle.std.proofs.lemmas.List.{get_or-take, length-take-le}
@@ -13,7 +13,7 @@ use Rattle.residual_graph.specs.Storage.{flow_at, view_of, IsStored}
 use Rattle.residual_graph.specs.Touched.{Touches}
 use Rattle.residual_graph.specs.View.{ResidualView, IsSound, left_on}
 use Rattle.residual_graph.specs.declared.place.Place.{Place}
-use Rattle.residual_graph.proofs.ByPlace.{begin-most, stored-at}
+use Rattle.residual_graph.proofs.ByPlace.{stored-at}
 use Rattle.residual_graph.proofs.Views.{flow_is, flows_within, get_or-flows_at, left_is, net_is}
 
 -- What the stored lists are of the view.

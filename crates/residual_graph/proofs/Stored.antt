@@ -1,5 +1,5 @@
 -- What a push, a load and an undoing make of the stored lists.
-use Rattle.std.proofs.Common.{◌≡◌, ◌≢◌, ℕ, ◌+◌, ◌-◌, ◌*◌, ◌/◌, ◌<◌, ◌≤◌, Bool, false, List, [], length, get_or}
+use Rattle.std.proofs.Common.{◌≡◌, ◌≢◌, ℕ, ◌+◌, ◌*◌, ◌/◌, ◌<◌, ◌≤◌, Bool, false, List, [], length, get_or}
 use Rattle.std.proofs.Common.{take, ◌++◌, replicate, refl, sym, ap, ◌∙◌, subst, inl, eqb, eq-eqb, arith}
 use Rattle.std.proofs.lemmas.Bool.{false≢true}
 use Rattle.std.specs.Prelude.{pos, ◌≤ℤ◌}

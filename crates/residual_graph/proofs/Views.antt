@@ -1,13 +1,12 @@
 -- What the stored lists say of the network and the flow that contracts see.
 use Rattle.std.proofs.Common.{◌≡◌, ℕ, suc, ◌+◌, ◌*◌, ◌/◌, ◌%◌, ◌<◌, ◌≤◌, List, [], ◌∷◌, length}
-use Rattle.std.proofs.Common.{get_or, map, sym, ap, ◌∙◌, subst, inl, inr, ◌⊎◌, arith}
+use Rattle.std.proofs.Common.{get_or, map, sym, ap, subst, inl, inr, ◌⊎◌, arith}
 use Rattle.std.specs.Prelude.{ℤ, pos, ◌+ℤ◌, ◌-ℤ◌, nat_abs}
 use Rattle.std.specs.List.{range_with_len}
 use Rattle.std.proofs.lemmas.Bool.{cases_eq}
 use Rattle.std.proofs.lemmas.Int.{ints}
 use Rattle.std.proofs.lemmas.List.FromFn.{length-map-range_with_len, get_or-map-range_with_len}
 use Rattle.cut_model.specs.declared.network.Link.{Link}
-use Rattle.cut_model.specs.Net.{Net}
 use Rattle.cut_model.specs.Flow.{IsWithinCaps}
 use Rattle.residual_graph.specs.Arcs.{no_link}
 use Rattle.residual_graph.specs.View.{ResidualView, left_on}

@@ -1,4 +1,4 @@
-use Rattle.std.proofs.Common.{◌≡◌, drop}
+use Rattle.std.proofs.Common.{drop}
 use Rattle.residual_graph.specs.Fills.{HasCapsBut}
 use Rattle.residual_graph.proofs.capacities.reset.Given as goal
 

@@ -1,8 +1,8 @@
-use Rattle.std.proofs.Common.{◌≡◌, ◌<◌, ◌≤◌, ◌+◌, ◌*◌, ◌/◌, List, get_or, length, refl, sym, ap, ◌∙◌, arith}
+use Rattle.std.proofs.Common.{◌≡◌, ◌<◌, ◌≤◌, ◌/◌, List, get_or, length, refl, ap, ◌∙◌, arith}
 use Rattle.std.proofs.lemmas.List.{get_or_read_under}
 use Rattle.std.proofs.lemmas.List.Sums.{sum_by_more}
 use Rattle.cut_model.specs.declared.network.Link.{Link}
-use Rattle.residual_graph.specs.Arcs.{arc_count, arcs_from, cap_of, no_link}
+use Rattle.residual_graph.specs.Arcs.{arcs_from, cap_of, no_link}
 use Rattle.residual_graph.specs.Places.{no_place}
 use Rattle.residual_graph.specs.declared.place.Place.{Place}
 use Rattle.residual_graph.proofs.Listed.{few_arcs, get_or-places_from, length-places_from}

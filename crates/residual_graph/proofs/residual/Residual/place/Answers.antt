@@ -1,8 +1,6 @@
-use Rattle.std.proofs.Common.{◌≡◌, ℕ, ◌∙◌, length, refl, sym, subst, arith, ◌<◌}
+use Rattle.std.proofs.Common.{ℕ, ◌∙◌, length, refl, sym, subst, arith}
 use Rattle.std.proofs.lemmas.List.{get_or_read_under}
-use Rattle.residual_graph.specs.Arcs.{arc_count}
-use Rattle.residual_graph.specs.Places.{IsPlaceOf, no_place, place_at}
-use Rattle.residual_graph.specs.declared.place.Place.{Place}
+use Rattle.residual_graph.specs.Places.{IsPlaceOf, no_place}
 use Rattle.residual_graph.proofs.ByPlace.{between-is, router-of}
 use Rattle.residual_graph.proofs.Reading.{is_of, place_is, sound_of}
 use Rattle.residual_graph.proofs.residual.Residual.place.Goals as goal

@@ -1,9 +1,6 @@
 use Rattle.std.proofs.Common.{length, drop, eqb, refl, arith}
 use Rattle.std.specs.Int.RustNames.{bit_xor}
 use Rattle.std.proofs.lemmas.List.{get_or_read_under}
-use Rattle.residual_graph.specs.Storage.{IsStored}
-use Rattle.residual_graph.specs.Touched.{noted_if}
-use Rattle.residual_graph.specs.Fills.{after}
 use Rattle.residual_graph.proofs.Reading.{is_of, sound_of}
 use Rattle.residual_graph.proofs.Stored.{push_at, told_apart, written}
 use Rattle.residual_graph.proofs.residual.Residual.push.Goals as goal
