@@ -5,3 +5,5 @@ pub mod Advancing
 pub mod Farther
 pub mod Flows
 pub mod Growing
+pub mod OpenArcs
+pub mod Sides

@@ -3,3 +3,4 @@ pub mod Searching
 pub mod Sending
 pub mod Phases
 pub mod Room
+pub mod Desk

@@ -5,5 +5,9 @@
 #![tactic(auto)]
 
 mod blocking;
+mod cut;
+mod desk;
 mod flow;
 mod search;
+
+pub use desk::FlowDesk;
