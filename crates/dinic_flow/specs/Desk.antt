@@ -10,14 +10,6 @@ pub record DeskView : Type 0 where
   pub net : Net
   pub flow : List ℤ
 
--- What a desk of so many routers and links means that holds a residual graph.
-unfoldable pub desk_of : ℕ → ℕ → ResidualView → DeskView
-desk_of routers links graph = record {
-  room = record { routers = routers; links = links };
-  net = graph.net;
-  flow = graph.flow;
-}
-
 -- The residual graph has the room of the desk, and each list a place for each router.
 pub record IsEquipped (routers links : ℕ) (graph : ResidualView) (label cursor ahead behind : List ℕ) : Type 0 where
   pub graph_routers : graph.room_routers ≡ routers

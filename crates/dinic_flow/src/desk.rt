@@ -38,9 +38,13 @@ impl Model for FlowDesk {
 
     ghost Value = { DeskView };
 
-    ghost use Rattle.dinic_flow.specs.Desk.{desk_of, IsEquipped};
+    ghost view = { λ d. record {
+        room = record { routers = d.routers; links = d.links };
+        net = d.graph.net;
+        flow = d.graph.flow;
+    } };
 
-    ghost view = { λ d. desk_of d.routers d.links d.graph };
+    ghost use Rattle.dinic_flow.specs.Desk.{IsEquipped};
 
     ghost invariant = { λ d. IsEquipped d.routers d.links d.graph
         d.label.items d.cursor.items d.ahead.items d.behind.items };
