@@ -1,5 +1,5 @@
 -- A ball that grows by one arc.
-use Rattle.std.proofs.Common.{◌≡◌, ◌≢◌, ℕ, zero, suc, ◌+◌, ◌<◌, ◌≤◌, Bool, List, [], length, get_or}
+use Rattle.std.proofs.Common.{◌≡◌, ℕ, zero, suc, ◌+◌, ◌-◌, ◌<◌, ◌≤◌, Bool, List, [], length, get_or}
 use Rattle.std.proofs.Common.{sym, ◌∙◌, ap, subst, arith, refl, inl, inr}
 use Rattle.std.proofs.lemmas.Bool.{cases_eq, cases_lt}
 use Rattle.cut_model.specs.Net.{Net}
@@ -121,9 +121,26 @@ work-same net queue longer (suc k) same =
     work-same net queue longer k (λ i below. same i (omega (arith, below))) in
     rw (same k (omega arith), before) refl
 
--- More routers are no less work.
-pub work-mono : (net : Net) (queue : List ℕ) (k more : ℕ) → work_of net queue k ≤ work_of net queue (k + more)
-work-mono net queue k zero = let same : k + 0 ≡ k = omega arith in rw same (omega arith)
-work-mono net queue k (suc more) =
+work-add : (net : Net) (queue : List ℕ) (k more : ℕ) → work_of net queue k ≤ work_of net queue (k + more)
+work-add net queue k zero = let same : k + 0 ≡ k = omega arith in rw same (omega arith)
+work-add net queue k (suc more) =
     let next : k + suc more ≡ suc (k + more) = omega arith in
-    rw next (omega (arith, work-mono net queue k more))
+    rw next (omega (arith, work-add net queue k more))
+
+-- More routers are no less work.
+pub work-mono : (net : Net) (queue : List ℕ) (k count : ℕ) → k ≤ count → work_of net queue k ≤ work_of net queue count
+work-mono net queue k count within =
+    let gap : k + (count - k) ≡ count = omega (arith, within) in
+    subst (λ (n : ℕ). work_of net queue k ≤ work_of net queue n) gap (work-add net queue k (count - k))
+
+-- A router more costs as many steps as arcs leave it.
+pub work-more : (net : Net) (queue longer : List ℕ) (done base start before after : ℕ) →
+    ((i : ℕ) → i < done + 1 → get_or longer i 0 ≡ get_or queue i 0) →
+    before + base ≤ start + work_of net queue done →
+    after ≤ before + length (arcs_from net (get_or queue done 0)) →
+    after + base ≤ start + work_of net longer (done + 1)
+work-more net queue longer done base start before after same paid more =
+    let next : done + 1 ≡ suc done = omega arith in
+    let all : work_of net longer (suc done) ≡ work_of net queue (suc done) =
+    work-same net queue longer (suc done) (λ i short. same i (omega (arith, short))) in
+    rw (next, all) (omega (arith, paid, more))

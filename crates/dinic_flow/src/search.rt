@@ -175,8 +175,11 @@ fn spread<L: Ledger>(
     requires label { graph.now.net.routers ≤ length label.old }
     requires other { graph.now.net.routers ≤ length other.now }
     requires queue { graph.now.net.routers ≤ length queue.old }
+    requires some { ball.front < ball.known }
     requires ball { IsBall graph.now least back label.old queue.old ball.front ball.known ball.known ball.radius }
     requires apart { AreApart label.old other.now }
+    ensures more { ball.known ≤ result.known }
+    ensures few { result.known ≤ graph.now.net.routers }
     ensures centre { slice_index queue.new 0 ≡ slice_index queue.old 0 }
     ensures apart { AreApart label.new other.now }
     ensures grown { IsFalse result.joined →
@@ -184,7 +187,7 @@ fn spread<L: Ledger>(
     ensures stopped { IsTrue result.joined →
         IsBall graph.now least back label.new queue.new ball.front ball.known result.known ball.radius }
     ensures meets { IsTrue result.joined → Meets graph.now least back label.new other.now ball.radius }
-    ensures steps { steps.new + work_of graph.now.net queue.new ball.front
+    ensures steps { steps.new + work_of graph.now.net queue.old ball.front
         ≤ steps.old + work_of graph.now.net queue.new ball.known }
 {
     let mut known = ball.known;
