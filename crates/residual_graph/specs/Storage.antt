@@ -15,17 +15,17 @@ use Rattle.residual_graph.specs.declared.place.Place.{Place}
 abbrev pub flow_at : List Link → List ℕ → ℕ → ℤ
 flow_at links left i = pos (slice_index_or links i no_link).cap -ℤ pos (slice_index left (2 * i))
 
--- The flows on so many links.
-unfoldable pub flows_at : List Link → List ℕ → ℕ → List ℤ
-flows_at kept left links = map (flow_at kept left) (range_with_len 0 links)
+-- The flows on the links.
+unfoldable pub flows_at : List Link → List ℕ → List ℤ
+flows_at links left = map (flow_at links left) (range_with_len 0 (length links))
 
 -- What the stored lists mean.
-unfoldable pub view_of : ℕ → ℕ → ℕ → ℕ → List Link → List ℕ → ResidualView
-view_of room_routers room_links routers links kept left = record {
+unfoldable pub view_of : ℕ → ℕ → ℕ → List Link → List ℕ → ResidualView
+view_of room_routers room_links routers links left = record {
   room_routers = room_routers;
   room_links = room_links;
-  net = record { routers = routers; links = take links kept };
-  flow = flows_at kept left links;
+  net = record { routers = routers; links = links };
+  flow = flows_at links left;
 }
 
 -- The two arcs of each link have twice its capacity left together.

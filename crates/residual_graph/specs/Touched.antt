@@ -13,3 +13,7 @@ noted touches link =
     if nat_lt (length touches.links) touches.room
     then record touches { links = touches.links ++ link ∷ [] }
     else record touches { all = true }
+
+-- The same, or unchanged where nothing new is to be noted.
+abbrev pub noted_if : Bool → Touches → ℕ → Touches
+noted_if is_new touches link = if is_new then noted touches link else touches

@@ -6,7 +6,7 @@ ghost use Rattle.residual_graph.specs.Arcs.{arc_count, arcs_from, cap_of, head_o
 ghost use Rattle.residual_graph.specs.Places.{IsPlaceOf, begin_of, no_place, place_at, place_of, places_from};
 ghost use Rattle.residual_graph.specs.View.{IsSound, left_on, pushed};
 
-use crate::capacities::{move_amount, reset, set_left};
+use crate::capacities::{flow_of, keep, move_amount, restore, set_left};
 use crate::index::{group, index_arcs};
 use crate::place::Place;
 use crate::same::is_same;
@@ -41,9 +41,10 @@ impl Model for Residual {
 
     ghost Value = { ResidualView };
 
+    ghost use Rattle.std.specs.Prelude.{take};
     ghost use Rattle.residual_graph.specs.Storage.{view_of, IsStored};
 
-    ghost view = { λ r. view_of r.room_routers r.room_links r.routers r.links r.kept.items r.left.items };
+    ghost view = { λ r. view_of r.room_routers r.room_links r.routers (take r.links r.kept.items) r.left.items };
 
     ghost invariant = { λ r. IsStored r.room_routers r.room_links r.routers r.links
         r.first.items r.places.items r.kept.items r.left.items r.touched };
@@ -115,7 +116,7 @@ impl Residual {
         let links = net.links();
         self.routers = net.routers();
         self.links = links.len() as u32;
-        self.kept[..links.len()].copy_from_slice(links);
+        keep(links, &mut self.kept);
         index_arcs(self.routers, links, &mut self.first, &mut self.places);
         set_left(links, &mut self.left);
         self.touched.clear();
@@ -130,11 +131,7 @@ impl Residual {
         ensures sound { IsSound self.new }
     {
         let links = &self.kept[..self.links as usize];
-        if self.touched.is_all() {
-            set_left(links, &mut self.left);
-        } else {
-            reset(self.touched.links(), links, &mut self.left);
-        }
+        restore(&self.touched, links, &mut self.left);
         self.touched.clear();
     }
 
@@ -171,9 +168,8 @@ impl Residual {
     {
         steps.tick();
         let twin = arc ^ 1;
-        if self.left[arc as usize] == self.left[twin as usize] {
-            self.touched.note(arc / 2);
-        }
+        let still = self.left[arc as usize] == self.left[twin as usize];
+        self.touched.note_if(still, arc / 2);
         move_amount(&mut self.left, arc, twin, amount);
     }
 
@@ -216,7 +212,7 @@ impl Residual {
         ensures { result ≡ slice_index_or self.now.flow link (pos 0) }
     {
         let link = link as usize;
-        self.kept[link].cap as i64 - self.left[2 * link] as i64
+        flow_of(self.kept[link].cap, self.left[2 * link])
     }
 
     /// The arcs that leave a router, in ascending order, each with its head.

@@ -1,6 +1,6 @@
 //! Which links may carry flow.
-ghost use Rattle.std.specs.Prelude.{◌≡◌, ℕ, ◌<◌, ◌≤◌, IfOk, IsFalse, [], length, false};
-ghost use Rattle.residual_graph.specs.Touched.{Touches, noted};
+ghost use Rattle.std.specs.Prelude.{◌≡◌, IfOk, [], false};
+ghost use Rattle.residual_graph.specs.Touched.{noted_if};
 
 use cut_model::NoMemory;
 use std::alloc::Global;
@@ -56,11 +56,15 @@ impl Touched {
         &self.list[..self.count as usize]
     }
 
-    /// Notes one link more. Where the room is full, all links are taken as touched from now on.
+    /// Notes one link more, where that is asked for. Where the list is full, all links are taken as
+    /// touched from then on.
     #[inline]
-    pub fn note(&mut self, link: u32)
-        ensures { self.new ≡ noted self.old link }
+    pub fn note_if(&mut self, is_new: bool, link: u32)
+        ensures { self.new ≡ noted_if is_new self.old link }
     {
+        if !is_new {
+            return;
+        }
         if self.count < self.room {
             self.list[self.count as usize] = link;
             self.count += 1;
