@@ -1,3 +1,6 @@
 pub mod Levels
 pub mod Balls
 pub mod Searching
+pub mod Sending
+pub mod Phases
+pub mod Room

@@ -4,4 +4,6 @@
 //! the value of a least cut, the least side of one, and a flow of that value.
 #![tactic(auto)]
 
+mod blocking;
+mod flow;
 mod search;
