@@ -20,9 +20,9 @@ known-few view least back label queue known w old small none =
     places-few view.net.routers queue known alone 1 old.differ
     (λ i j below short. absurd (omega (arith, below, short)))
     (λ i j below short same.
-        let first : j ≡ 0 = omega (arith, short) in
-        let is : get_or queue i 0 ≡ w = same ∙ rw first refl in
-        absurd (omega (arith, old.positive i below, ap (λ r. get_or label r 0) is, none)))
+    let first : j ≡ 0 = omega (arith, short) in
+    let is : get_or queue i 0 ≡ w = same ∙ rw first refl in
+    absurd (omega (arith, old.positive i below, ap (λ r. get_or label r 0) is, none)))
     old.routers
     (λ i short. let first : i ≡ 0 = omega (arith, short) in rw first small) in
     omega (arith, most)
@@ -49,7 +49,6 @@ place-kept queue known w k below = get_or-set_other queue known k w 0 (λ same. 
 module _ (view : ResidualView) (least : ℕ) (back : Bool) (label queue : List ℕ) (known : ℕ)
     (old : IsLabelled view least back label queue known) (u w next : ℕ)
     (new : IsNext view least back label u w next) (room : known < length queue) where
-
   -- The new router has the label.
   new-label : get_or (set label w next) w 0 ≡ next
   new-label = get_or-set_same label w next 0 new.room

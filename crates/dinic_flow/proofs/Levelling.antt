@@ -110,7 +110,6 @@ module _ (view : ResidualView) (least : ℕ) (label marks final ahead behind : L
     (near : IsBall view least false label ahead front_s stop_s known_s a)
     (far : IsBall view least true marks behind front_t stop_t known_t b) (apart : AreApart label marks)
     (one : IsOneNumbering label marks final a b) where
-
   kind-of : (r : ℕ) → IsNear label final a r ⊎ (IsFar marks final a b r ⊎ IsBare label marks final a b r)
   kind-of r = elim (cases_lt 0 (get_or label r 0)) [
     | inl some ↦ elim (cases_lt (a + 1) (get_or label r 0)) [
@@ -301,11 +300,11 @@ module _ (view : ResidualView) (least : ℕ) (label marks final ahead behind : L
       let most : known_s + known_t ≤ view.net.routers =
       places-few view.net.routers ahead known_s behind known_t near.labelled.differ far.labelled.differ
       (λ i j short short_too same.
-        let mark : get_or marks (get_or ahead i 0) 0 ≡ 0 =
-        apart (get_or ahead i 0) (near.labelled.positive i short) in
-        let is : get_or marks (get_or ahead i 0) 0 ≡ get_or marks (get_or behind j 0) 0 =
-        ap (λ (x : ℕ). get_or marks x 0) same in
-        absurd (omega (arith, mark, is, far.labelled.positive j short_too)))
+      let mark : get_or marks (get_or ahead i 0) 0 ≡ 0 =
+      apart (get_or ahead i 0) (near.labelled.positive i short) in
+      let is : get_or marks (get_or ahead i 0) 0 ≡ get_or marks (get_or behind j 0) 0 =
+      ap (λ (x : ℕ). get_or marks x 0) same in
+      absurd (omega (arith, mark, is, far.labelled.positive j short_too)))
       near.labelled.routers far.labelled.routers in
       omega (arith, most, near.deep, far.deep, some_s, some_t)
 

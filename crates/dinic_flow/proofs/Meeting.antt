@@ -42,8 +42,7 @@ pub part-of : (queue : List ℕ) (i j k : ℕ) → i ≤ k → k < j → j ≤ l
     (k - i < length (take (j - i) (drop i queue))) × (get_or (take (j - i) (drop i queue)) (k - i) 0 ≡ get_or queue k 0)
 part-of queue i j k late below within =
     let here : k - i < j - i = omega (arith, late, below) in
-    let there : i + (k - i) ≡ k = omega (arith, late) in
-    (
+    let there : i + (k - i) ≡ k = omega (arith, late) in (
       omega (arith, here, within, length-take (j - i) (drop i queue), length-drop i queue),
       get_or-take (j - i) (drop i queue) (k - i) 0 here ∙ get_or-drop i queue (k - i) 0 ∙ ap (λ x. get_or queue x 0) there,
     )
@@ -103,8 +102,11 @@ numbered-near view least label marks bare final ahead behind front_s stop_s know
       none = λ r far_off out_of.
           elim (cases_lt 0 (get_or marks r 0)) [
             | inl some ↦
-                absurd (omega (arith, out_of some,
-                whole-most view least true marks behind front_t known_t b far r some))
+                absurd (omega (
+                  arith,
+                  out_of some,
+                  whole-most view least true marks behind front_t known_t b far r some,
+                ))
             | inr bare_r ↦ final-kept r (omega (arith, bare_r)) ∙ elim (cases_lt 0 (get_or label r 0)) [
               | inl some ↦
                   let (k, short, is) = near.labelled.held r some in
@@ -136,8 +138,7 @@ numbered-far view least label marks final ahead behind front_s known_s a front_t
     let marked : (r k : ℕ) → k < length (take stop_t behind) → get_or (take stop_t behind) k 0 ≡ r →
     (0 < get_or marks r 0) × (get_or marks r 0 ≤ b + 1) = λ r k short is.
     let (below, at) = front-at behind stop_t k short in
-    let same : get_or behind k 0 ≡ r = sym at ∙ is in
-    (
+    let same : get_or behind k 0 ≡ r = sym at ∙ is in (
       rw same at (far.labelled.positive k (omega (arith, below, far.within))),
       rw same at (far.inside k below),
     ) in
@@ -158,8 +159,11 @@ numbered-far view least label marks final ahead behind front_s known_s a front_t
           ];
       none = λ r far_off out_of. elim (cases_lt 0 (get_or label r 0)) [
         | inl some ↦
-            absurd (omega (arith, far_off some,
-            whole-most view least false label ahead front_s known_s a near r some))
+            absurd (omega (
+              arith,
+              far_off some,
+              whole-most view least false label ahead front_s known_s a near r some,
+            ))
         | inr bare ↦
             numbered.kept r (λ k short is.
             let here = marked r k short is in
@@ -218,12 +222,11 @@ joined-far view least s t label marks final ahead behind front_s known_s a front
 -- A router at a place below n is in the front of a queue.
 contains-front : (queue : List ℕ) (n k r : ℕ) → k < n → n ≤ length queue → get_or queue k 0 ≡ r →
     Contains (take n queue) r
-contains-front queue n k r below within is =
-    (
-      k,
-      (front-of queue n k below within).0,
-      get_or-take n queue k r below ∙ get_or_default_zero queue k r (omega (arith, below, within)) ∙ is,
-    )
+contains-front queue n k r below within is = (
+  k,
+  (front-of queue n k below within).0,
+  get_or-take n queue k r below ∙ get_or_default_zero queue k r (omega (arith, below, within)) ∙ is,
+)
 
 -- And the other way.
 front-contains : (queue : List ℕ) (n r : ℕ) → n ≤ length queue → Contains (take n queue) r →
@@ -256,8 +259,7 @@ parted view least s t label marks ahead behind front known radius ball whole apa
   walks = λ r inside.
       let (k, short, is) = front-contains ahead known r room inside in
       let some : 0 < get_or label r 0 = rw is at (ball.labelled.positive k short) in
-      let level : get_or label r 0 ≡ get_or label r 0 - 1 + 1 = omega (arith, some) in
-      (
+      let level : get_or label r 0 ≡ get_or label r 0 - 1 + 1 = omega (arith, some) in (
         get_or label r 0 - 1,
         rw start at (walk-to view least false label ahead known ball.labelled r (get_or label r 0 - 1) level),
       );
@@ -346,8 +348,8 @@ work-both view least label marks ahead behind front_s stop_s known_s a front_t s
     (λ i j below short. near.labelled.differ i j below (omega (arith, short, within)))
     (λ i j below short. far.labelled.differ i j below (omega (arith, short, within_too)))
     (λ i j short short_too same.
-      let mark : get_or marks (get_or ahead i 0) 0 ≡ 0 =
-      apart (get_or ahead i 0) (near.labelled.positive i (omega (arith, short, within))) in
-      let is : get_or marks (get_or ahead i 0) 0 ≡ get_or marks (get_or behind j 0) 0 =
-      ap (λ (x : ℕ). get_or marks x 0) same in
-      absurd (omega (arith, mark, is, far.labelled.positive j (omega (arith, short_too, within_too)))))
+    let mark : get_or marks (get_or ahead i 0) 0 ≡ 0 =
+    apart (get_or ahead i 0) (near.labelled.positive i (omega (arith, short, within))) in
+    let is : get_or marks (get_or ahead i 0) 0 ≡ get_or marks (get_or behind j 0) 0 =
+    ap (λ (x : ℕ). get_or marks x 0) same in
+    absurd (omega (arith, mark, is, far.labelled.positive j (omega (arith, short_too, within_too)))))

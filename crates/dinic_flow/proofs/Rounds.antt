@@ -2,12 +2,35 @@
 use Rattle.std.proofs.Common.{◌≡◌, ℕ, ◌+◌, ◌<◌, ◌≤◌, Bool, List, length, get_or, sym, ◌∙◌, ap, subst, arith, inl, inr}
 use Rattle.std.proofs.lemmas.Bool.{cases_lt}
 use Rattle.residual_graph.specs.Arcs.{tail_of, head_of, arc_count, turned}
-use Rattle.residual_graph.specs.Places.{no_place, place_of}
+use Rattle.residual_graph.specs.Places.{no_place, place_of, IsPlaceOf}
 use Rattle.residual_graph.specs.View.{ResidualView}
 use Rattle.residual_graph.specs.declared.place.Place.{Place}
 use Rattle.dinic_flow.specs.Levels.{IsOpen}
 use Rattle.dinic_flow.specs.Balls.{LeadsOn, Grows}
-use Rattle.dinic_flow.proofs.Walks.{ArcAlong, arc-along}
+use Rattle.dinic_flow.proofs.Walks.{ArcAlong, leads-along, arc-along}
+use Rattle.dinic_flow.proofs.Labels.{IsNext}
+
+-- The arc of a place leads on from its tail to its head, if it is open the way that is followed.
+pub place-leads : (view : ResidualView) (least : ℕ) (back : Bool) (place : Place) →
+    IsPlaceOf view.net (tail_of view.net place.arc) place → IsOpen view least (turned back place.arc) →
+    LeadsOn view least back (tail_of view.net place.arc) place.head
+place-leads view least back place is is_open =
+    rw is.head (leads-along view least back place.arc is.arc is_open)
+
+-- Its head is the next router, if it has no label.
+pub place-next : (view : ResidualView) (least : ℕ) (back : Bool) (label : List ℕ) (place : Place) (next : ℕ) →
+    IsPlaceOf view.net (tail_of view.net place.arc) place → IsOpen view least (turned back place.arc) →
+    view.net.routers ≤ length label → 0 < get_or label (tail_of view.net place.arc) 0 →
+    get_or label (tail_of view.net place.arc) 0 + 1 ≡ next → get_or label place.head 0 ≡ 0 →
+    IsNext view least back label (tail_of view.net place.arc) place.head next
+place-next view least back label place next is is_open size some level none = record {
+  leads = place-leads view least back place is is_open;
+  tail = some;
+  level = level;
+  small = is.below;
+  room = omega (arith, is.below, size);
+  none = none;
+}
 
 -- The head of a place has a label, if its arc is open the way that is followed.
 abbrev pub IsReached : ResidualView → ℕ → Bool → List ℕ → Place → Type 0

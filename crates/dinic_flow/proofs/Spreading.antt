@@ -51,7 +51,6 @@ module _ (view : ResidualView) (least : ℕ) (back : Bool) (label queue : List �
     (ball : IsBall view least back label queue front known known radius) (wider longer : List ℕ) (count : ℕ)
     (grows : Grows label queue known (radius + 2) wider longer count)
     (labelled : IsLabelled view least back wider longer count) where
-
   -- The labels of the ball's routers stay.
   level-kept : (k : ℕ) → k < known → get_or wider (get_or longer k 0) 0 ≡ get_or label (get_or queue k 0) 0
   level-kept k short = rw (grows.same k short) (grows.kept (get_or queue k 0) (ball.labelled.positive k short))
