@@ -61,7 +61,8 @@ module _ (view : ResidualView) (least : ℕ) (back : Bool) (label queue : List �
   old-label : (k : ℕ) → k < known →
       get_or (set label w next) (get_or (set queue known w) k 0) 0 ≡ get_or label (get_or queue k 0) 0
   old-label k below =
-      rw (place-kept queue known w k below) (label-kept label w next (get_or queue k 0) new.none (old.positive k below))
+      rw (place-kept queue known w k below)
+      (label-kept label w next (get_or queue k 0) new.none (old.positive k below))
 
   -- The label of the last router in the queue is the new one.
   last-label : get_or (set label w next) (get_or (set queue known w) known 0) 0 ≡ next
@@ -97,7 +98,8 @@ module _ (view : ResidualView) (least : ℕ) (back : Bool) (label queue : List �
     | inr late ↦
         let last : k ≡ known = omega arith in
         let (i, below, is) = old.held u new.tail in
-        let first : WalksOn view least back (get_or label u 0 - 1) (get_or queue 0 0) u = rw is at (old.walks i below) in
+        let first : WalksOn view least back (get_or label u 0 - 1) (get_or queue 0 0) u =
+        rw is at (old.walks i below) in
         let walk : WalksOn view least back (get_or label u 0 - 1 + 1) (get_or queue 0 0) w =
         walks-more view least back (get_or label u 0 - 1) (get_or queue 0 0) u w first new.leads in
         let arcs : get_or label u 0 - 1 + 1 ≡ next - 1 = omega (arith, new.tail, new.level) in

@@ -12,7 +12,8 @@ use Rattle.residual_graph.specs.Arcs.{tail_of, head_of, arc_count}
 use Rattle.residual_graph.specs.View.{ResidualView}
 use Rattle.dinic_flow.specs.Levels.{IsOpen, OpenArc, Walk}
 use Rattle.dinic_flow.specs.Searching.{IsJoined, IsApart}
-use Rattle.dinic_flow.specs.Balls.{LeadsOn, WalksOn, IsLabelled, AreApart, Meets, IsBall, IsLetOut, IsNumbered, work_of}
+use Rattle.dinic_flow.specs.Balls.{LeadsOn, WalksOn, IsLabelled, AreApart, Meets, IsBall}
+use Rattle.dinic_flow.specs.Balls.{IsLetOut, IsNumbered, work_of}
 use Rattle.std.proofs.lemmas.Grind.{get_or_default_zero}
 use Rattle.dinic_flow.proofs.Counting.{work-few}
 use Rattle.dinic_flow.proofs.Labels.{apart-turned}
@@ -39,12 +40,15 @@ part-at queue i j k short =
 
 -- And the other way.
 pub part-of : (queue : List ℕ) (i j k : ℕ) → i ≤ k → k < j → j ≤ length queue →
-    (k - i < length (take (j - i) (drop i queue))) × (get_or (take (j - i) (drop i queue)) (k - i) 0 ≡ get_or queue k 0)
+    (k - i < length (take (j - i) (drop i queue))) ×
+    (get_or (take (j - i) (drop i queue)) (k - i) 0 ≡ get_or queue k 0)
 part-of queue i j k late below within =
     let here : k - i < j - i = omega (arith, late, below) in
     let there : i + (k - i) ≡ k = omega (arith, late) in (
       omega (arith, here, within, length-take (j - i) (drop i queue), length-drop i queue),
-      get_or-take (j - i) (drop i queue) (k - i) 0 here ∙ get_or-drop i queue (k - i) 0 ∙ ap (λ x. get_or queue x 0) there,
+      get_or-take (j - i) (drop i queue) (k - i) 0 here
+          ∙ get_or-drop i queue (k - i) 0
+          ∙ ap (λ x. get_or queue x 0) there,
     )
 
 -- What is in the front of a queue is a router, and has at most this label.
@@ -188,7 +192,8 @@ joined-near view least s t label marks bare final ahead behind front_s stop_s kn
     let u : ℕ = meets.from in
     let v : ℕ = meets.crosses.to in
     let none : get_or marks u 0 ≡ 0 = apart u (omega (arith, meets.level)) in
-    let rim = at-rim view least true marks behind front_t known_t b far v u meets.crosses.marked meets.crosses.leads none in
+    let rim = at-rim view least true marks behind front_t known_t b far v u meets.crosses.marked
+    meets.crosses.leads none in
     let both : IsJoined view least (get_or ahead 0 0) (get_or behind 0 0) final (a + b + 1) =
     joined view least label marks final ahead behind front_s stop_s known_s a front_t known_t known_t b near far apart
     (numbered-near view least label marks bare final ahead behind front_s stop_s known_s a front_t known_t b near far
@@ -211,7 +216,8 @@ joined-far view least s t label marks final ahead behind front_s known_s a front
     let v : ℕ = meets.from in
     let u : ℕ = meets.crosses.to in
     let none : get_or label v 0 ≡ 0 = apart-turned label marks apart v (omega (arith, meets.level)) in
-    let rim = at-rim view least false label ahead front_s known_s a near u v meets.crosses.marked meets.crosses.leads none in
+    let rim = at-rim view least false label ahead front_s known_s a near u v meets.crosses.marked
+    meets.crosses.leads none in
     let both : IsJoined view least (get_or ahead 0 0) (get_or behind 0 0) final (a + b + 1) =
     joined view least label marks final ahead behind front_s known_s known_s a front_t stop_t known_t b near far apart
     (numbered-far view least label marks final ahead behind front_s known_s a front_t stop_t known_t b near far
@@ -232,8 +238,13 @@ contains-front queue n k r below within is = (
 front-contains : (queue : List ℕ) (n r : ℕ) → n ≤ length queue → Contains (take n queue) r →
     (k : ℕ) × (k < n) × (get_or queue k 0 ≡ r)
 front-contains queue n r within (k, short, is) =
-    let (below, at) = front-at queue n k short in
-    (k, below, sym (get_or_default_zero queue k r (omega (arith, below, within))) ∙ sym (get_or-take n queue k r below) ∙ is)
+    let (below, at) = front-at queue n k short in (
+      k,
+      below,
+      sym (get_or_default_zero queue k r (omega (arith, below, within)))
+          ∙ sym (get_or-take n queue k r below)
+          ∙ is,
+    )
 
 -- A ball about s that can't grow, and in which t isn't, is all that s reaches.
 pub parted : (view : ResidualView) (least s t : ℕ) (label marks ahead behind : List ℕ) (front known radius : ℕ) →

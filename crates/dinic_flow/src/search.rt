@@ -1,6 +1,7 @@
 //! A search from both ends.
 ghost use Rattle.std.specs.Prelude.{◌≡◌, ◌≢◌, ℕ, ◌+◌, ◌<◌, ◌≤◌};
-ghost use Rattle.std.specs.Prelude.{All, IsTrue, IsFalse, length, replicate, slice_index, slice_set};
+ghost use Rattle.std.specs.Prelude.{All, IsTrue, IsFalse, length, replicate};
+ghost use Rattle.std.specs.Prelude.{slice_index, slice_set};
 ghost use Rattle.residual_graph.specs.Arcs.{arc_count, arcs_from, tail_of, turned};
 ghost use Rattle.residual_graph.specs.Places.{IsPlaceOf};
 ghost use Rattle.residual_graph.specs.View.{IsSound};
@@ -25,8 +26,8 @@ pub enum Found {
     Apart(usize),
 }
 
-/// How far a ball has come: the first `known` routers of its queue are in it, and those of them from
-/// `front` on are `radius` open arcs away from its centre.
+/// How far a ball has come: the first `known` routers of its queue are in it, and those from `front`
+/// on are `radius` open arcs away from its centre.
 #[derive(Clone, Copy)]
 struct Ball {
     front: usize,
@@ -59,8 +60,9 @@ fn begin(centre: u32, label: &mut [u32], queue: &mut [u32]) -> Ball
     }
 }
 
-/// Gives the label to the head of an arc, and puts it into the queue, if the arc is open and the head
-/// has no label. Where it has a label of the other ball, it stays as it is, and the balls are joined.
+/// Gives the label to the head of an arc, and puts it into the queue, if the arc is open and the
+/// head has no label yet. Where the head is in the other ball, it stays so, and the balls are joined.
+/// At most one step.
 #[inline(always)]
 fn reach<L: Ledger>(
     graph: &Residual,
@@ -88,7 +90,8 @@ fn reach<L: Ledger>(
     ensures apart { AreApart label.new other.now }
     ensures reached { IsFalse result.joined → IsOpen graph.now least (turned back place.arc) →
         0 < slice_index label.new place.head }
-    ensures crosses { IsTrue result.joined → Crosses graph.now least back other.now (tail_of graph.now.net place.arc) }
+    ensures crosses { IsTrue result.joined →
+        Crosses graph.now least back other.now (tail_of graph.now.net place.arc) }
     ensures steps { steps.new ≤ steps.old + 1 }
 {
     let head = place.head as usize;
@@ -112,7 +115,7 @@ fn reach<L: Ledger>(
     }
 }
 
-/// Reaches on along the arcs of a router, until one joins the balls.
+/// Reaches on along the arcs of a router, until one joins the balls. At most one step an arc.
 #[inline(always)]
 fn look_around<L: Ledger>(
     graph: &Residual,
@@ -159,7 +162,8 @@ fn look_around<L: Ledger>(
     }
 }
 
-/// Spreads a ball by one arc, until an open arc joins it with the other one.
+/// Spreads a ball by one arc, until an open arc joins it with the other one. At most one step for each
+/// arc of the routers at its front.
 #[inline(always)]
 fn spread<L: Ledger>(
     graph: &Residual,
@@ -176,17 +180,21 @@ fn spread<L: Ledger>(
     requires other { graph.now.net.routers ≤ length other.now }
     requires queue { graph.now.net.routers ≤ length queue.old }
     requires some { ball.front < ball.known }
-    requires ball { IsBall graph.now least back label.old queue.old ball.front ball.known ball.known ball.radius }
+    requires ball { IsBall graph.now least back label.old queue.old
+        ball.front ball.known ball.known ball.radius }
     requires apart { AreApart label.old other.now }
     ensures more { ball.known ≤ result.known }
     ensures few { result.known ≤ graph.now.net.routers }
     ensures centre { slice_index queue.new 0 ≡ slice_index queue.old 0 }
     ensures apart { AreApart label.new other.now }
     ensures grown { IsFalse result.joined →
-        IsBall graph.now least back label.new queue.new ball.known result.known result.known (ball.radius + 1) }
+        IsBall graph.now least back label.new queue.new
+        ball.known result.known result.known (ball.radius + 1) }
     ensures stopped { IsTrue result.joined →
-        IsBall graph.now least back label.new queue.new ball.front ball.known result.known ball.radius }
-    ensures meets { IsTrue result.joined → Meets graph.now least back label.new other.now ball.radius }
+        IsBall graph.now least back label.new queue.new
+        ball.front ball.known result.known ball.radius }
+    ensures meets { IsTrue result.joined →
+        Meets graph.now least back label.new other.now ball.radius }
     ensures steps { steps.new + work_of graph.now.net queue.old ball.front
         ≤ steps.old + work_of graph.now.net queue.new ball.known }
 {
@@ -268,8 +276,9 @@ fn number(label: &mut [u32], marks: &[u32], queue: &[u32], total: u32)
 /// until an open arc joins the balls, or that of s can't grow (Pohl, 1971). It looks at each arc
 /// at most once.
 ///
-/// Where they join, `label` has the levels. Where they don't, `ahead` begins with the routers that s
-/// reaches. `marks` and `behind` serve the ball about t, and have nothing to tell afterwards.
+/// Where they join, `label` has the levels. Where they don't, `ahead` begins with the routers that
+/// s reaches. `marks` has the labels of the ball about t, and `behind` its routers: what the two hold
+/// afterwards means nothing.
 pub fn search<L: Ledger>(
     graph: &Residual,
     s: u32,
