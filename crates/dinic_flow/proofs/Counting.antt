@@ -1,8 +1,8 @@
 -- Routers that differ: how many they can be, and how many arcs leave them together.
-use Rattle.std.proofs.Common.{◌≡◌, ◌≢◌, ℕ, zero, suc, ◌+◌, ◌<◌, ◌≤◌, Bool, true, false, cond, List, [], ◌∷◌}
-use Rattle.std.proofs.Common.{length, get_or, sym, ◌∙◌, ap, subst, arith, refl, inl, inr, eq-eqb}
+use Rattle.std.proofs.Common.{◌≡◌, ◌≢◌, ℕ, zero, suc, ◌+◌, ◌<◌, ◌≤◌, false, cond, List, [], ◌∷◌}
+use Rattle.std.proofs.Common.{length, get_or, sym, ◌∙◌, arith, refl, inl, inr, eq-eqb}
 use Rattle.std.specs.Prelude.{◌==◌, ◌⊎◌}
-use Rattle.std.specs.List.{count_by, filter, range_with_len}
+use Rattle.std.specs.List.{count_by, range_with_len}
 use Rattle.std.proofs.lemmas.Bool.{cases_eq, ne_eqb}
 use Rattle.std.proofs.lemmas.List.Sums.{length-filter, sum_by-cons, get_or-le-sum_by}
 use Rattle.std.proofs.lemmas.List.FromFn.{length-range_with_len, get_or-range_with_len}
@@ -86,6 +86,7 @@ hits_of-cons key x xs queue (suc k) =
     sum_by-cons (λ y. cond (key y == r) 1 0) x xs in
     omega (arith, more, hits_of-cons key x xs queue k)
 
+-- An empty list has no hits.
 hits_of-nil : (key : ℕ → ℕ) (queue : List ℕ) (k : ℕ) → hits_of key [] queue k ≡ 0
 hits_of-nil key queue zero = refl
 hits_of-nil key queue (suc k) = omega (arith, hits_of-nil key queue k)
@@ -103,6 +104,7 @@ hits-few key (x ∷ xs) first k second l differ differ_too apart =
     times-both (key x) first k second l differ differ_too apart in
     omega (arith, rest, one, hits_of-cons key x xs first k, hits_of-cons key x xs second l)
 
+-- The arcs that leave the routers of a queue are those whose tails it holds.
 work_of-hits : (net : Net) (queue : List ℕ) (k : ℕ) →
     work_of net queue k ≡ hits_of (tail_of net) (range_with_len 0 (arc_count net)) queue k
 unfolding arcs_from
@@ -133,6 +135,7 @@ hits-some xs i r within same =
     get_or-le-sum_by (λ x. cond (x == r) 1 0) xs i 0 within in
     omega (arith, one, most)
 
+-- Each router below n is hit by the numbers below n.
 hits_of-all : (n : ℕ) (queue : List ℕ) (k : ℕ) → ((i : ℕ) → i < k → get_or queue i 0 < n) →
     k ≤ hits_of (λ x. x) (range_with_len 0 n) queue k
 hits_of-all n queue zero small = omega arith

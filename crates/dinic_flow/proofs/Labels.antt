@@ -1,10 +1,8 @@
 -- A router gets a label and enters a queue.
 use Rattle.std.proofs.Common.{◌≡◌, ◌≢◌, ℕ, ◌+◌, ◌-◌, ◌<◌, ◌≤◌, Bool, List, [], ◌∷◌, length, get_or, set}
-use Rattle.std.proofs.Common.{length-set, get_or-set_same, get_or-set_other}
-use Rattle.std.proofs.Common.{sym, ◌∙◌, ap, subst, arith, refl, inl, inr}
-use Rattle.std.specs.Prelude.{◌⊎◌}
+use Rattle.std.proofs.Common.{get_or-set_same, get_or-set_other}
+use Rattle.std.proofs.Common.{sym, ◌∙◌, ap, arith, refl, inl, inr}
 use Rattle.std.proofs.lemmas.Bool.{cases_eq, cases_lt}
-use Rattle.std.proofs.lemmas.List.{get_or_past}
 use Rattle.residual_graph.specs.View.{ResidualView}
 use Rattle.dinic_flow.specs.Balls.{LeadsOn, WalksOn, IsLabelled, Grows, AreApart}
 use Rattle.dinic_flow.proofs.Walks.{walks-more}
@@ -68,6 +66,7 @@ module _ (view : ResidualView) (least : ℕ) (back : Bool) (label queue : List �
   last-label : get_or (set label w next) (get_or (set queue known w) known 0) 0 ≡ next
   last-label = rw new-place new-label
 
+  -- A router with a label stands in the longer queue.
   grown-held : (r : ℕ) → 0 < get_or (set label w next) r 0 →
       (k : ℕ) × (k < known + 1) × (get_or (set queue known w) k 0 ≡ r)
   grown-held r some = elim (cases_eq r w) [
@@ -78,6 +77,7 @@ module _ (view : ResidualView) (least : ℕ) (back : Bool) (label queue : List �
         (k, omega (arith, below), place-kept queue known w k below ∙ is)
   ]
 
+  -- No router stands there twice.
   grown-differ : (i j : ℕ) → i < j → j < known + 1 → get_or (set queue known w) i 0 ≢ get_or (set queue known w) j 0
   grown-differ i j below short same = elim (cases_lt j known) [
     | inl early ↦
@@ -90,6 +90,7 @@ module _ (view : ResidualView) (least : ℕ) (back : Bool) (label queue : List �
         absurd (omega (arith, old.positive i before, ap (λ r. get_or label r 0) is, new.none))
   ]
 
+  -- A walk leads to each of its routers.
   grown-walks : (k : ℕ) → k < known + 1 →
       WalksOn view least back (get_or (set label w next) (get_or (set queue known w) k 0) 0 - 1)
       (get_or (set queue known w) 0 0) (get_or (set queue known w) k 0)

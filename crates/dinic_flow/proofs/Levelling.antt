@@ -1,11 +1,11 @@
 -- Two balls that an open arc joins make levels.
-use Rattle.std.proofs.Common.{◌≡◌, ◌≢◌, ℕ, zero, suc, ◌+◌, ◌-◌, ◌<◌, ◌≤◌, Bool, true, false, List, length, get_or}
+use Rattle.std.proofs.Common.{◌≡◌, ℕ, ◌+◌, ◌-◌, ◌<◌, ◌≤◌, Bool, true, false, List, length, get_or}
 use Rattle.std.proofs.Common.{sym, ◌∙◌, ap, subst, arith, refl, inl, inr, eq-eqb}
-use Rattle.std.specs.Prelude.{◌⊎◌, ◌==◌}
-use Rattle.std.proofs.lemmas.Bool.{cases_eq, cases_lt, ne_eqb}
-use Rattle.residual_graph.specs.Arcs.{tail_of, head_of, arc_count}
+use Rattle.std.specs.Prelude.{◌⊎◌}
+use Rattle.std.proofs.lemmas.Bool.{cases_lt, ne_eqb}
+use Rattle.residual_graph.specs.Arcs.{tail_of, head_of}
 use Rattle.residual_graph.specs.View.{ResidualView}
-use Rattle.dinic_flow.specs.Levels.{IsOpen, OpenArc, Walk, height, IsLevelled}
+use Rattle.dinic_flow.specs.Levels.{OpenArc, Walk, height, IsLevelled}
 use Rattle.dinic_flow.specs.Searching.{IsJoined}
 use Rattle.dinic_flow.specs.Balls.{LeadsOn, WalksOn, IsLabelled, AreApart, IsClosedAt, IsBall}
 use Rattle.dinic_flow.proofs.Walks.{walk-append, walk-arc, walks-none}
@@ -99,9 +99,11 @@ record IsBare (label marks final : List ℕ) (a b r : ℕ) : Type 0 where
   outside : 0 < get_or marks r 0 → b + 1 < get_or marks r 0
   is : get_or final r 0 ≡ 0
 
+-- The height of a router with a label is its label.
 height-some : (mid : ℕ) (label : List ℕ) (r : ℕ) → 0 < get_or label r 0 → height mid label r ≡ get_or label r 0
 height-some mid label r some = rw (ne_eqb (get_or label r 0) 0 (λ e. omega (arith, some, e))) refl
 
+-- The height of a router without one is the middle.
 height-none : (mid : ℕ) (label : List ℕ) (r : ℕ) → get_or label r 0 ≡ 0 → height mid label r ≡ mid
 height-none mid label r none = rw (eq-eqb (get_or label r 0) 0 none) refl
 
@@ -110,6 +112,7 @@ module _ (view : ResidualView) (least : ℕ) (label marks final ahead behind : L
     (near : IsBall view least false label ahead front_s stop_s known_s a)
     (far : IsBall view least true marks behind front_t stop_t known_t b) (apart : AreApart label marks)
     (one : IsOneNumbering label marks final a b) where
+  -- Each router is of one of the three kinds.
   kind-of : (r : ℕ) → IsNear label final a r ⊎ (IsFar marks final a b r ⊎ IsBare label marks final a b r)
   kind-of r = elim (cases_lt 0 (get_or label r 0)) [
     | inl some ↦ elim (cases_lt (a + 1) (get_or label r 0)) [
@@ -175,6 +178,7 @@ module _ (view : ResidualView) (least : ℕ) (label marks final ahead behind : L
     | inr rim ↦ omega (arith, rim, v_far.most, v_far.is)
   ]
 
+  -- An open arc from a router of the ball about s rises by one at most.
   rise-near : (u v : ℕ) → OpenArc view least u v → IsNear label final a u →
       height (a + 2) final v ≤ get_or final u 0 + 1
   rise-near u v arc u_near =
@@ -206,6 +210,7 @@ module _ (view : ResidualView) (least : ℕ) (label marks final ahead behind : L
         ]
       ]
 
+  -- So does one from a router of the ball about t.
   rise-far : (u v : ℕ) → OpenArc view least u v → IsFar marks final a b u →
       height (a + 2) final v ≤ get_or final u 0 + 1
   rise-far u v arc u_far = elim (kind-of v) [
@@ -263,6 +268,7 @@ module _ (view : ResidualView) (least : ℕ) (label marks final ahead behind : L
     ]
   ]
 
+  -- No label is larger than that of the centre of the ball about t.
   label-final : (r : ℕ) → get_or final r 0 ≤ a + b + 2
   label-final r = elim (kind-of r) [
     | inl r_near ↦ omega (arith, r_near.is, r_near.most)
@@ -283,12 +289,14 @@ module _ (view : ResidualView) (least : ℕ) (label marks final ahead behind : L
     ]
   ]
 
+  -- That centre has the largest label.
   far-centre : get_or final (get_or behind 0 0) 0 ≡ a + b + 2
   far-centre =
       let at : get_or final (get_or behind 0 0) 0 ≡ a + b + 3 - get_or marks (get_or behind 0 0) 0 =
       one.far (get_or behind 0 0) (omega (arith, far.labelled.centre)) (omega (arith, far.labelled.centre)) in
       omega (arith, at, far.labelled.centre)
 
+  -- The centre of the ball about s has the label 1.
   near-centre : get_or final (get_or ahead 0 0) 0 ≡ 1
   near-centre =
       one.near (get_or ahead 0 0) (omega (arith, near.labelled.centre)) (omega (arith, near.labelled.centre))
@@ -308,6 +316,7 @@ module _ (view : ResidualView) (least : ℕ) (label marks final ahead behind : L
       near.labelled.routers far.labelled.routers in
       omega (arith, most, near.deep, far.deep, some_s, some_t)
 
+  -- The numbering makes levels.
   levels : length final ≡ view.net.routers → front_s < known_s → front_t < known_t →
       IsLevelled view least (get_or behind 0 0) final
   levels size some_s some_t = record {

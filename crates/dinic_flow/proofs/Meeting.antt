@@ -1,16 +1,14 @@
 -- What stands at the end of a search.
-use Rattle.std.proofs.Common.{◌≡◌, ◌≢◌, ℕ, zero, suc, ◌+◌, ◌-◌, ◌<◌, ◌≤◌, Bool, true, false, List, length, get_or}
+use Rattle.std.proofs.Common.{◌≡◌, ◌≢◌, ℕ, ◌+◌, ◌-◌, ◌<◌, ◌≤◌, Bool, true, false, List, length, get_or}
 use Rattle.std.proofs.Common.{take, drop, set, replicate, length-take, length-drop, get_or-take, get_or-drop}
 use Rattle.std.proofs.Common.{get_or-set_same, get_or-set_other}
-use Rattle.std.proofs.Common.{sym, ◌∙◌, ap, subst, arith, refl, inl, inr}
-use Rattle.std.specs.Prelude.{◌⊎◌}
+use Rattle.std.proofs.Common.{sym, ◌∙◌, ap, arith, refl, inl, inr}
 use Rattle.std.specs.List.{All, Contains}
 use Rattle.std.proofs.lemmas.Bool.{cases_eq, cases_lt}
 use Rattle.std.proofs.lemmas.List.{get_or_past, get_or-replicate, length-replicate}
 use Rattle.std.proofs.lemmas.List.Elements.{All-from_get_or}
 use Rattle.residual_graph.specs.Arcs.{tail_of, head_of, arc_count}
 use Rattle.residual_graph.specs.View.{ResidualView}
-use Rattle.dinic_flow.specs.Levels.{IsOpen, OpenArc, Walk}
 use Rattle.dinic_flow.specs.Searching.{IsJoined, IsApart}
 use Rattle.dinic_flow.specs.Balls.{LeadsOn, WalksOn, IsLabelled, AreApart, Meets, IsBall}
 use Rattle.dinic_flow.specs.Balls.{IsLetOut, IsNumbered, work_of}
@@ -51,7 +49,7 @@ part-of queue i j k late below within =
           ∙ ap (λ x. get_or queue x 0) there,
     )
 
--- What is in the front of a queue is a router, and has at most this label.
+-- What is in the front of a queue is a router.
 pub front-routers : (view : ResidualView) (least : ℕ) (back : Bool) (label queue : List ℕ) (known n size : ℕ) →
     IsLabelled view least back label queue known → n ≤ known → view.net.routers ≤ size →
     All (λ r. r < size) (take n queue)
@@ -276,6 +274,7 @@ parted view least s t label marks ahead behind front known radius ball whole apa
       );
 }
 
+-- A walk of no arc leads from each router to itself.
 walks-still : (view : ResidualView) (least : ℕ) (back : Bool) (u : ℕ) → WalksOn view least back 0 u u
 walks-still view least false u = refl
 walks-still view least true u = refl
@@ -285,6 +284,7 @@ record IsAlone (label : List ℕ) (centre : ℕ) : Type 0 where
   here : get_or label centre 0 ≡ 1
   only : (r : ℕ) → r ≢ centre → get_or label r 0 ≡ 0
 
+-- Where all labels are taken away and one is given, only its router has one.
 alone-begun : (label : List ℕ) (size centre : ℕ) → label ≡ set (replicate size 0) centre 1 → centre < size →
     IsAlone label centre
 alone-begun label size centre is within =

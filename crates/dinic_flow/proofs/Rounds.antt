@@ -1,7 +1,7 @@
 -- What the arcs of one router reach.
-use Rattle.std.proofs.Common.{◌≡◌, ℕ, ◌+◌, ◌<◌, ◌≤◌, Bool, List, length, get_or, sym, ◌∙◌, ap, subst, arith, inl, inr}
+use Rattle.std.proofs.Common.{◌≡◌, ℕ, ◌+◌, ◌<◌, ◌≤◌, Bool, List, length, get_or, arith, inl, inr}
 use Rattle.std.proofs.lemmas.Bool.{cases_lt}
-use Rattle.residual_graph.specs.Arcs.{tail_of, head_of, arc_count, turned}
+use Rattle.residual_graph.specs.Arcs.{tail_of, arc_count, turned}
 use Rattle.residual_graph.specs.Places.{no_place, place_of, IsPlaceOf}
 use Rattle.residual_graph.specs.View.{ResidualView}
 use Rattle.residual_graph.specs.declared.place.Place.{Place}

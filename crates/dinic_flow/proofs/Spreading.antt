@@ -1,11 +1,11 @@
 -- A ball that grows by one arc.
 use Rattle.std.proofs.Common.{◌≡◌, ℕ, zero, suc, ◌+◌, ◌-◌, ◌<◌, ◌≤◌, Bool, List, [], length, get_or}
-use Rattle.std.proofs.Common.{sym, ◌∙◌, ap, subst, arith, refl, inl, inr}
-use Rattle.std.proofs.lemmas.Bool.{cases_eq, cases_lt}
+use Rattle.std.proofs.Common.{◌∙◌, subst, arith, refl, inl, inr}
+use Rattle.std.proofs.lemmas.Bool.{cases_lt}
 use Rattle.cut_model.specs.Net.{Net}
 use Rattle.residual_graph.specs.Arcs.{arcs_from}
 use Rattle.residual_graph.specs.View.{ResidualView}
-use Rattle.dinic_flow.specs.Balls.{LeadsOn, IsLabelled, Grows, Crosses, Meets, IsClosedAt, IsBall, work_of}
+use Rattle.dinic_flow.specs.Balls.{LeadsOn, IsLabelled, Grows, IsClosedAt, IsBall, work_of}
 use Rattle.dinic_flow.proofs.Counting.{places-few}
 
 -- A queue has at most as many routers as there are.
@@ -59,9 +59,11 @@ module _ (view : ResidualView) (least : ℕ) (back : Bool) (label queue : List �
   pub rim-kept : (k : ℕ) → front ≤ k → k < known → get_or wider (get_or longer k 0) 0 ≡ radius + 1
   rim-kept k late short = level-kept k short ∙ ball.rim k late short
 
+  -- Those of the ball stay within the radius.
   inside-kept : (k : ℕ) → k < known → get_or wider (get_or longer k 0) 0 ≤ radius + 1
   inside-kept k short = rw (level-kept k short) (ball.inside k short)
 
+  -- Each router of the longer queue is at most one arc beyond the radius.
   at-most : (k : ℕ) → k < count → get_or wider (get_or longer k 0) 0 ≤ radius + 2
   at-most k short = elim (cases_lt k known) [
     | inl early ↦ omega (arith, inside-kept k early)
@@ -120,6 +122,7 @@ work-same net queue longer (suc k) same =
     work-same net queue longer k (λ i below. same i (omega (arith, below))) in
     rw (same k (omega arith), before) refl
 
+-- Some routers more are no less work.
 work-add : (net : Net) (queue : List ℕ) (k more : ℕ) → work_of net queue k ≤ work_of net queue (k + more)
 work-add net queue k zero = let same : k + 0 ≡ k = omega arith in rw same (omega arith)
 work-add net queue k (suc more) =

@@ -1,11 +1,11 @@
 -- Walks that are joined, and arcs that are followed either way.
-use Rattle.std.proofs.Common.{◌≡◌, ℕ, zero, suc, ◌+◌, ◌-◌, ◌*◌, ◌/◌, ◌%◌, ◌<◌, ◌≤◌, Bool, true, false, length}
-use Rattle.std.proofs.Common.{sym, ◌∙◌, ap, subst, arith, refl, inl, inr, eq-eqb}
+use Rattle.std.proofs.Common.{◌≡◌, ℕ, zero, suc, ◌+◌, ◌-◌, ◌/◌, ◌%◌, ◌<◌, ◌≤◌, Bool, true, false}
+use Rattle.std.proofs.Common.{sym, ◌∙◌, subst, arith, refl, inl, inr, eq-eqb}
 use Rattle.std.specs.Prelude.{◌==◌, ℤ, pos, ◌≤ℤ◌}
 use Rattle.std.proofs.lemmas.Int.{ints}
-use Rattle.std.proofs.lemmas.Bool.{cases_eq, cases_Bool, ne_eqb, eqb-true}
+use Rattle.std.proofs.lemmas.Bool.{cases_eq, ne_eqb}
 use Rattle.cut_model.specs.Net.{Net}
-use Rattle.residual_graph.specs.Arcs.{tail_in, head_in, tail_of, head_of, arc_count, link_of, twin, turned}
+use Rattle.residual_graph.specs.Arcs.{tail_in, head_in, tail_of, head_of, arc_count, twin, turned}
 use Rattle.residual_graph.specs.View.{ResidualView}
 use Rattle.dinic_flow.specs.Levels.{IsOpen, OpenArc, Walk}
 use Rattle.dinic_flow.specs.Balls.{LeadsOn, WalksOn}
@@ -48,6 +48,7 @@ pub record IsTwin (net : Net) (arc back : ℕ) : Type 0 where
   pub head : head_of net back ≡ tail_of net arc
   pub again : twin back ≡ arc
 
+-- The twin of an arc of even number is the next.
 even-twin : (net : Net) (arc : ℕ) → arc < arc_count net → arc % 2 ≡ 0 → IsTwin net arc (twin arc)
 unfolding tail_in head_in twin
 even-twin net arc within even =
@@ -62,6 +63,7 @@ even-twin net arc within even =
       again = rw (is_even, odd) there;
     }
 
+-- The twin of an arc of odd number is the one before.
 odd-twin : (net : Net) (arc : ℕ) → arc < arc_count net → arc % 2 ≡ 1 → IsTwin net arc (twin arc)
 unfolding tail_in head_in twin
 odd-twin net arc within odd =
@@ -76,6 +78,7 @@ odd-twin net arc within odd =
       again = rw (is_odd, even) there;
     }
 
+-- Each arc has its twin.
 is-twin : (net : Net) (arc : ℕ) → arc < arc_count net → IsTwin net arc (twin arc)
 is-twin net arc within = elim (cases_eq (arc % 2) 0) [
   | inl even ↦ even-twin net arc within even

@@ -1,6 +1,5 @@
 -- The loop goes over just the arcs that leave the router.
-use Rattle.std.proofs.Common.{◌≡◌, ℕ, ◌+◌, ◌<◌, ◌≤◌, subst, arith, rules}
-use Rattle.residual_graph.specs.Arcs.{tail_of}
+use Rattle.std.proofs.Common.{ℕ, subst, arith, rules}
 use Rattle.residual_graph.specs.Places.{no_place}
 use Rattle.dinic_flow.specs.Balls.{Crosses}
 use Rattle.dinic_flow.proofs.Labels.{grows-more}

@@ -1,7 +1,6 @@
-use Rattle.std.proofs.Common.{◌≡◌, ℕ, ◌+◌, ◌<◌, ◌≤◌, get_or}
+use Rattle.std.proofs.Common.{ℕ, ◌+◌, ◌<◌, ◌≤◌, get_or}
 use Rattle.residual_graph.specs.Arcs.{turned}
 use Rattle.residual_graph.specs.Places.{no_place}
-use Rattle.residual_graph.specs.declared.place.Place.{Place}
 use Rattle.dinic_flow.specs.Levels.{IsOpen}
 use Rattle.dinic_flow.specs.Balls.{IsLabelled, Grows, AreApart}
 use Rattle.dinic_flow.proofs.search.look_around.Given as goal

@@ -1,9 +1,9 @@
 -- A head over an open arc is the next router, and there is room for it.
-use Rattle.std.proofs.Common.{◌≡◌, ℕ, ◌+◌, ◌<◌, ◌≤◌, arith}
+use Rattle.std.proofs.Common.{arith}
 use Rattle.residual_graph.specs.Arcs.{tail_of, turned}
 use Rattle.dinic_flow.specs.Levels.{IsOpen}
 use Rattle.dinic_flow.proofs.Walks.{open-left}
-use Rattle.dinic_flow.proofs.Labels.{IsNext, known-few, labelled-grown, grows-one}
+use Rattle.dinic_flow.proofs.Labels.{known-few, labelled-grown, grows-one}
 use Rattle.dinic_flow.proofs.Rounds.{place-leads, place-next}
 use Rattle.dinic_flow.proofs.search.reach.Goals as goal
 

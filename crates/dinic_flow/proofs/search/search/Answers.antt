@@ -1,6 +1,5 @@
 -- A search begins, goes on and ends.
-use Rattle.std.proofs.Common.{◌≡◌, ℕ, ◌+◌, ◌-◌, ◌<◌, ◌≤◌, false, true, get_or, sym, ◌∙◌, arith, rules}
-use Rattle.dinic_flow.specs.Balls.{AreApart, IsBall}
+use Rattle.std.proofs.Common.{false, true, ◌∙◌, arith, rules}
 use Rattle.dinic_flow.proofs.Labels.{apart-turned}
 use Rattle.dinic_flow.proofs.Meeting.{front-routers, part-routers, joined-near, joined-far, parted}
 use Rattle.dinic_flow.proofs.Meeting.{begun-ball, first-put, begun-apart, work-both}

@@ -1,5 +1,5 @@
 -- The front is within the queue, and what is followed stays closed.
-use Rattle.std.proofs.Common.{◌≡◌, ℕ, ◌+◌, ◌<◌, ◌≤◌, get_or, sym, ◌∙◌, arith, rules}
+use Rattle.std.proofs.Common.{◌+◌, ◌<◌, get_or, arith, rules}
 use Rattle.dinic_flow.specs.Balls.{work_of}
 use Rattle.dinic_flow.proofs.Labels.{grows-more}
 use Rattle.dinic_flow.proofs.Spreading.{known-most, all_closed-kept, all_closed-more, rim-kept, closed-here}

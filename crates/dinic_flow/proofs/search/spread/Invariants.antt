@@ -1,4 +1,4 @@
-use Rattle.std.proofs.Common.{◌≡◌, ℕ, ◌+◌, ◌<◌, ◌≤◌, get_or}
+use Rattle.std.proofs.Common.{ℕ, ◌+◌, ◌<◌, ◌≤◌, get_or}
 use Rattle.dinic_flow.specs.Balls.{IsLabelled, Grows, AreApart, IsClosedAt, work_of}
 use Rattle.dinic_flow.proofs.search.spread.Given as goal
 
