@@ -1,3 +1,10 @@
+pub mod Walks
+pub mod Counting
+pub mod Labels
+pub mod Rounds
+pub mod Spreading
+pub mod Levelling
+pub mod Meeting
 pub mod Pushes
 pub mod Sending
 pub mod Relays

@@ -1,4 +1,5 @@
 pub mod Levels
+pub mod Balls
 pub mod Searching
 pub mod Sending
 pub mod Phases
