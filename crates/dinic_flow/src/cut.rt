@@ -70,7 +70,8 @@ fn coarse_flow<L: Ledger>(
 }
 
 /// A least cut of `s` from `t` in a graph without a flow, whose least side goes into `side`. Flow is
-/// first sent over the arcs that have at least `least` left, and then over all that have any.
+/// first sent over the arcs that have at least `least` left, and then over all that have any. The four
+/// lists have room for all routers; what they hold before and afterwards means nothing.
 pub fn least_side<L: Ledger>(
     graph: &mut Residual,
     s: u32,
@@ -88,10 +89,10 @@ pub fn least_side<L: Ledger>(
     requires differ { s ≢ t }
     requires s { s < graph.old.net.routers }
     requires t { t < graph.old.net.routers }
-    requires label { length label.old ≡ graph.old.net.routers }
-    requires cursor { length cursor.old ≡ graph.old.net.routers }
-    requires ahead { length ahead.old ≡ graph.old.net.routers }
-    requires behind { length behind.old ≡ graph.old.net.routers }
+    requires label { graph.old.net.routers ≤ length label.old }
+    requires cursor { graph.old.net.routers ≤ length cursor.old }
+    requires ahead { graph.old.net.routers ≤ length ahead.old }
+    requires behind { graph.old.net.routers ≤ length behind.old }
     requires size { length side.old ≡ graph.old.net.routers }
     ensures same { graph.new ≡ record graph.old { flow = graph.new.flow } }
     ensures sound { IsSound graph.new }
@@ -101,6 +102,11 @@ pub fn least_side<L: Ledger>(
     ensures steps { steps.new ≤ steps.old
         + 6 * length graph.old.net.links * graph.old.net.routers * graph.old.net.routers }
 {
+    let routers = side.size() as usize;
+    let label = &mut label[..routers];
+    let cursor = &mut cursor[..routers];
+    let ahead = &mut ahead[..routers];
+    let behind = &mut behind[..routers];
     let coarse = coarse_flow(graph, s, t, least, label, cursor, ahead, behind, steps);
     let fine = max_flow(
         graph,

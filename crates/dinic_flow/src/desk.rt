@@ -137,16 +137,15 @@ impl FlowDesk {
             + 6 * length self.old.net.links * self.old.net.routers * self.old.net.routers }
     {
         let least = self.coarse_least(s, t);
-        let routers = side.size() as usize;
         let cut = least_side(
             &mut self.graph,
             s,
             t,
             least,
-            &mut self.label[..routers],
-            &mut self.cursor[..routers],
-            &mut self.ahead[..routers],
-            &mut self.behind[..routers],
+            &mut self.label,
+            &mut self.cursor,
+            &mut self.ahead,
+            &mut self.behind,
             side,
             steps,
         );
