@@ -207,6 +207,89 @@ impl FlowDesk {
         self.cut_still(s, t, side, steps)
     }
 
+    /// As `least_cut`, with a counter of its own from a blank.
+    fn least_cut_from<L: Ledger>(
+        &mut self,
+        net: &Network,
+        s: u32,
+        t: u32,
+        side: &mut Side,
+        blank: Blank,
+    ) -> u64
+        requires name { blank.name ≡ L.name }
+        requires parts { blank.parts ≡ L.parts }
+        requires some { 0 < L.parts }
+        requires fits { Fits self.old.room net.now }
+        requires differ { s ≢ t }
+        requires s { s < net.now.routers }
+        requires t { t < net.now.routers }
+        requires size { length side.old ≡ net.now.routers }
+        ensures least { IsLeastSide net.now s t (set_of side.new) result }
+        ensures flow { IsFlow net.now s t self.new.flow result }
+        ensures net { self.new.net ≡ net.now }
+        ensures room { self.new.room ≡ self.old.room }
+        ensures size { length side.new ≡ length side.old }
+    {
+        let mut steps = Steps::<L>::zero(blank);
+        self.least_cut(net, s, t, side, &mut steps)
+    }
+
+    /// As `least_cut`, for a caller that counts no steps.
+    pub fn least_cut_uncounted(&mut self, net: &Network, s: u32, t: u32, side: &mut Side) -> u64
+        requires fits { Fits self.old.room net.now }
+        requires differ { s ≢ t }
+        requires s { s < net.now.routers }
+        requires t { t < net.now.routers }
+        requires size { length side.old ≡ net.now.routers }
+        ensures least { IsLeastSide net.now s t (set_of side.new) result }
+        ensures flow { IsFlow net.now s t self.new.flow result }
+        ensures net { self.new.net ≡ net.now }
+        ensures room { self.new.room ≡ self.old.room }
+        ensures size { length side.new ≡ length side.old }
+    {
+        self.least_cut_from::<Brand>(net, s, t, side, Blank::new(1))
+    }
+
+    /// As `least_cut_of_held`, with a counter of its own from a blank.
+    fn least_cut_of_held_from<L: Ledger>(
+        &mut self,
+        s: u32,
+        t: u32,
+        side: &mut Side,
+        blank: Blank,
+    ) -> u64
+        requires name { blank.name ≡ L.name }
+        requires parts { blank.parts ≡ L.parts }
+        requires some { 0 < L.parts }
+        requires differ { s ≢ t }
+        requires s { s < self.old.net.routers }
+        requires t { t < self.old.net.routers }
+        requires size { length side.old ≡ self.old.net.routers }
+        ensures least { IsLeastSide self.old.net s t (set_of side.new) result }
+        ensures flow { IsFlow self.old.net s t self.new.flow result }
+        ensures net { self.new.net ≡ self.old.net }
+        ensures room { self.new.room ≡ self.old.room }
+        ensures size { length side.new ≡ length side.old }
+    {
+        let mut steps = Steps::<L>::zero(blank);
+        self.least_cut_of_held(s, t, side, &mut steps)
+    }
+
+    /// As `least_cut_of_held`, for a caller that counts no steps.
+    pub fn least_cut_of_held_uncounted(&mut self, s: u32, t: u32, side: &mut Side) -> u64
+        requires differ { s ≢ t }
+        requires s { s < self.old.net.routers }
+        requires t { t < self.old.net.routers }
+        requires size { length side.old ≡ self.old.net.routers }
+        ensures least { IsLeastSide self.old.net s t (set_of side.new) result }
+        ensures flow { IsFlow self.old.net s t self.new.flow result }
+        ensures net { self.new.net ≡ self.old.net }
+        ensures room { self.new.room ≡ self.old.room }
+        ensures size { length side.new ≡ length side.old }
+    {
+        self.least_cut_of_held_from::<Brand>(s, t, side, Blank::new(1))
+    }
+
     /// The flow of the last cut on a link, positive from its end a to its end b. Where the network was
     /// loaded and not cut yet, it is 0.
     pub fn flow_on(&self, link: u32) -> i64
