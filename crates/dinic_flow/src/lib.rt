@@ -9,5 +9,7 @@ mod cut;
 mod desk;
 mod flow;
 mod search;
+#[cfg(test)]
+mod tests;
 
 pub use desk::FlowDesk;
