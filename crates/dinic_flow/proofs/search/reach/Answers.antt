@@ -11,7 +11,8 @@ pub returns-then-other-head-ne-NO_LABEL-clause-crosses :
     goal.returns-then-other-head-ne-NO_LABEL-clause-crosses
 returns-then-other-head-ne-NO_LABEL-clause-crosses g c = λ joined.
     let is_open : IsOpen c.args.graph.now c.args.least (turned c.args.back c.args.place.arc) =
-    open-left c.args.least c.left_along.result _ c.left_along.ensures.value c.if-left_along-least.false in
+    open-left c.args.least c.left_along.result _ c.left_along.ensures.value
+    (omega (arith, c.if-left_along-least.false)) in
     record {
       to = c.args.place.head;
       leads = place-leads c.args.graph.now c.args.least c.args.back c.args.place c.requires.place is_open;
@@ -40,7 +41,8 @@ pub returns-clause-labelled : goal.returns-clause-labelled
 returns-clause-labelled g c =
     let graph = c.args.graph.now in
     let is_open : IsOpen graph c.args.least (turned c.args.back c.args.place.arc) =
-    open-left c.args.least c.left_along.result _ c.left_along.ensures.value c.if-left_along-least.false in
+    open-left c.args.least c.left_along.result _ c.left_along.ensures.value
+    (omega (arith, c.if-left_along-least.false)) in
     let few = known-few graph c.args.least c.args.back c.args.label.now c.args.queue.now c.args.known
     c.args.place.head c.requires.labelled c.requires.place.below c.if-label-head-ne-NO_LABEL.false in
     labelled-grown graph c.args.least c.args.back c.args.label.now c.args.queue.now c.args.known
@@ -53,7 +55,8 @@ pub returns-clause-grows : goal.returns-clause-grows
 returns-clause-grows g c =
     let graph = c.args.graph.now in
     let is_open : IsOpen graph c.args.least (turned c.args.back c.args.place.arc) =
-    open-left c.args.least c.left_along.result _ c.left_along.ensures.value c.if-left_along-least.false in
+    open-left c.args.least c.left_along.result _ c.left_along.ensures.value
+    (omega (arith, c.if-left_along-least.false)) in
     let few = known-few graph c.args.least c.args.back c.args.label.now c.args.queue.now c.args.known
     c.args.place.head c.requires.labelled c.requires.place.below c.if-label-head-ne-NO_LABEL.false in
     grows-one graph c.args.least c.args.back c.args.label.now c.args.queue.now c.args.known
