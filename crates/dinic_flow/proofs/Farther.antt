@@ -13,7 +13,7 @@ use Rattle.residual_graph.specs.View.{ResidualView, IsSound}
 use Rattle.residual_graph.proofs.ByPlace.{arc-between, begin-zero, begin-next, begin-end}
 use Rattle.residual_graph.proofs.Listed.{head_below}
 use Rattle.dinic_flow.specs.Levels.{OpenArc, Walk, IsFartherThan, height, IsLevelled}
-use Rattle.dinic_flow.specs.Phases.{LeadsOn, IsSpent, IsBlocked, HasCome, IsPhase}
+use Rattle.dinic_flow.specs.Phases.{Rises, IsSpent, IsBlocked, HasCome, IsPhase}
 use Rattle.dinic_flow.proofs.Relays.{height-label}
 
 -- An open arc rises by one level at most.
@@ -75,7 +75,7 @@ stuck view least t label cursor phase some (suc arcs) u (w, arc, rest) steep apa
     let low = height-label mid label u (labelled view least t label phase.levelled some (suc arcs) u (w, arc, rest) steep) in
     let high = height-label mid label w (labelled view least t label phase.levelled some arcs w rest steep_on) in
     let on : get_or label w 0 ≡ get_or label u 0 + 1 = omega (arith, low, high, steep, steep_on) in
-    let leads : LeadsOn view.net label arc.arc = rw (arc.tail, arc.head) on in
+    let leads : Rises view.net label arc.arc = rw (arc.tail, arc.head) on in
     let (at, from, to, is) = arc-between view.net phase.sound.limits arc.arc arc.within in
     let start : begin_of view.net u ≤ at = rw arc.tail at from in
     let passed : at < get_or cursor u 0 = omega (arith, rw arc.tail at to, spent) in

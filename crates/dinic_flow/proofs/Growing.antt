@@ -14,7 +14,7 @@ unfoldable pub paid : ℕ → ℕ → ℕ
 paid arcs distance = arcs * distance + (arcs + 1) * (distance * (distance + 1))
 
 -- So many phases were made, t is farther than a distance, and the steps are those of the phases up to it.
-pub record Grows (before after : ResidualView) (least s t value phases earlier steps : ℕ) : Type 0 where
+pub record HasGrown (before after : ResidualView) (least s t value phases earlier steps : ℕ) : Type 0 where
   pub distance : ℕ
   pub same : after ≡ record before { flow = after.flow }
   pub sound : IsSound after
@@ -37,7 +37,7 @@ walk-some view least s t apart zero is = absurd (apart is)
 walk-some view least s t apart (suc arcs) (w, arc, rest) = (omega arith, omega (arith, arc.within))
 
 pub grows-none : (view : ResidualView) (least s t value steps : ℕ) → IsSound view → s < view.net.routers →
-    IsFlow view.net s t view.flow value → Grows view view least s t value 0 steps steps
+    IsFlow view.net s t view.flow value → HasGrown view view least s t value 0 steps steps
 grows-none view least s t value steps sound small flow = record {
   distance = 0;
   same = refl;
@@ -67,12 +67,12 @@ paid-next arcs distance = omega arith
 
 -- One phase more, over levels where t is farther than before.
 pub grows-on : (before between after : ResidualView) (least s t value next phases earlier steps searched sent distance : ℕ)
-    (label : List ℕ) → Grows before between least s t value phases earlier steps →
+    (label : List ℕ) → HasGrown before between least s t value phases earlier steps →
     IsJoined between least s t label distance → searched ≤ steps + arc_count between.net →
     after ≡ record between { flow = after.flow } → IsSound after → IsFlow after.net s t after.flow next →
     IsFartherThan after least s t (get_or label t 0 - 1) →
     sent ≤ searched + 2 * ((get_or label t 0 - 1) * (arc_count between.net + 1)) →
-    Grows before after least s t next (phases + 1) earlier sent
+    HasGrown before after least s t next (phases + 1) earlier sent
 grows-on before between after least s t value next phases earlier steps searched sent distance label old joined
   looked same sound flow far cost =
     let net : after.net ≡ between.net = ap (λ (v : ResidualView). v.net) same in

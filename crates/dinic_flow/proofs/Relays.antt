@@ -15,7 +15,7 @@ use Rattle.residual_graph.proofs.ByPlace.{between-is}
 use Rattle.residual_graph.proofs.Listed.{head_below}
 use Rattle.dinic_flow.specs.Levels.{IsOpen, height, IsLevelled}
 use Rattle.dinic_flow.specs.Sending.{only_at, SendsMore}
-use Rattle.dinic_flow.specs.Phases.{LeadsOn, IsSpent, IsBlocked, HasCome, IsPhase, Sends}
+use Rattle.dinic_flow.specs.Phases.{Rises, IsSpent, IsBlocked, HasCome, IsPhase, Sends}
 use Rattle.dinic_flow.proofs.Pushes.{caps-length, out-pushed, left-pushed, left-apart, IsTwin, twins}
 
 le-refl : (x : ℤ) → x ≤ℤ x
@@ -51,7 +51,7 @@ relation net other arc = elim (cases_eq (other / 2) (arc / 2)) [
 pub record IsPush (before after : ResidualView) (label : List ℕ) (arc amount : ℕ) : Type 0 where
   pub within : arc < arc_count before.net
   pub even : length before.flow ≡ length before.net.links
-  pub leads : LeadsOn before.net label arc
+  pub leads : Rises before.net label arc
   pub pushes : after ≡ record before { flow = pushed before.flow arc amount }
 
 push-net : (before after : ResidualView) (label : List ℕ) (arc amount : ℕ) → IsPush before after label arc amount →
@@ -136,7 +136,7 @@ blocked-push : (before after : ResidualView) (least t : ℕ) (label cursor : Lis
     IsBlocked after least t label cursor other
 blocked-push before after least t label cursor arc amount other push old leads =
     let net : after.net ≡ before.net = push-net before after label arc amount push in
-    let led : LeadsOn before.net label other = rw net at leads in
+    let led : Rises before.net label other = rw net at leads in
     elim (push-falls before after label arc amount other push) [
       | inr twin ↦ absurd (omega (arith, rw (twin.head, twin.tail) at led, push.leads))
       | inl falls ↦ elim (old led) [
@@ -215,7 +215,7 @@ pub sends-over : (before between after : ResidualView) (old new label : List ℕ
 sends-over before between after old new label arc t amount sent push within =
     let net : between.net ≡ before.net = ap (λ (v : ResidualView). v.net) sent.same in
     let flow : after.flow ≡ pushed between.flow arc amount = push-flow between after label arc amount push in
-    let leads : LeadsOn before.net label arc = rw net at push.leads in
+    let leads : Rises before.net label arc = rw net at push.leads in
     let even : length between.flow ≡ length before.net.links = rw net at push.even in
     let last : after ≡ record between { flow = after.flow } =
     push.pushes ∙ ap (λ (f : List ℤ). let w : ResidualView = record between { flow = f } in w) (sym flow) in
@@ -283,7 +283,7 @@ pub blocked-later : (before after : ResidualView) (old new label : List ℕ) (le
     IsBlocked before least t label old arc → IsBlocked after least t label new arc
 blocked-later before after old new label least router t x arc sent phase within was leads =
     let net : after.net ≡ before.net = ap (λ (v : ResidualView). v.net) sent.same in
-    let led : LeadsOn before.net label arc = rw net at leads in
+    let led : Rises before.net label arc = rw net at leads in
     elim (was led) [
       | inl closed ↦ inl (lt-le _ _ _ (sent.falls arc within led) closed)
       | inr spent ↦
@@ -323,7 +323,7 @@ is_over before between after old new label at least t amount next place is insid
     let is_arc : place.arc ≡ arc = ap (λ (p : Place). p.arc) is in
     let is_head : place.head ≡ head_of before.net arc = ap (λ (p : Place). p.head) is ∙ place_at-head before.net at in
     let within : arc < arc_count before.net = subst (λ (x : ℕ). x < arc_count before.net) is_arc inside in
-    let leads : LeadsOn before.net label arc = sym (ap (λ (r : ℕ). get_or label r 0) is_head) ∙ at_head ∙ at_tail in
+    let leads : Rises before.net label arc = sym (ap (λ (r : ℕ). get_or label r 0) is_head) ∙ at_head ∙ at_tail in
     let same : between.net ≡ before.net = ap (λ (v : ResidualView). v.net) sent.same in
     record {
       within = within;
@@ -356,7 +356,7 @@ pub over-blocked : (before between after : ResidualView) (old new label : List �
     amount < limit → IsBlocked after least t label new arc
 over-blocked before between after old new label arc least t left most limit amount over some is most_is below spent short leads =
     let same : after.net ≡ between.net = push-net between after label arc amount over.push in
-    let led : LeadsOn before.net label arc = rw over.same at over.push.leads in
+    let led : Rises before.net label arc = rw over.same at over.push.leads in
     let spared : left_on between arc ≡ left_on before arc = over.sent.spares arc over.within (omega (arith, led)) in
     elim (cases_lt amount most) [
       | inl less ↦ inr (rw (same, over.same) (rw over.same at (spent less)))

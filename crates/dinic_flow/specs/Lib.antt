@@ -4,3 +4,4 @@ pub mod Searching
 pub mod Sending
 pub mod Phases
 pub mod Room
+pub mod Desk

@@ -9,8 +9,8 @@ use Rattle.dinic_flow.specs.Levels.{IsLevelled}
 use Rattle.dinic_flow.specs.Sending.{SendsMore}
 
 -- The arc goes from its level to the next one.
-abbrev pub LeadsOn : Net → List ℕ → ℕ → Type 0
-LeadsOn net label arc = slice_index label (head_of net arc) ≡ slice_index label (tail_of net arc) + 1
+abbrev pub Rises : Net → List ℕ → ℕ → Type 0
+Rises net label arc = slice_index label (head_of net arc) ≡ slice_index label (tail_of net arc) + 1
 
 -- The router's cursor is behind all of its arcs.
 abbrev pub IsSpent : Net → List ℕ → ℕ → Type 0
@@ -19,7 +19,7 @@ IsSpent net cursor r = slice_index cursor r ≡ begin_of net (r + 1)
 -- An arc that leads on is closed, or leads to a spent router other than t.
 abbrev pub IsBlocked : ResidualView → ℕ → ℕ → List ℕ → List ℕ → ℕ → Type 0
 IsBlocked view least t label cursor arc =
-    LeadsOn view.net label arc →
+    Rises view.net label arc →
     (left_on view arc <ℤ pos least) ⊎ ((head_of view.net arc ≢ t) × IsSpent view.net cursor (head_of view.net arc))
 
 -- Each router's cursor is among its places, that of t at the first one, and all before a cursor are blocked.
@@ -46,7 +46,7 @@ pub record Sends (before after : ResidualView) (old new : List ℕ) (label : Lis
   pub same : after ≡ record before { flow = after.flow }
   pub sends : SendsMore before.net.links before.flow after.flow router t amount
   pub falls :
-      (arc : ℕ) → arc < arc_count before.net → LeadsOn before.net label arc →
+      (arc : ℕ) → arc < arc_count before.net → Rises before.net label arc →
       left_on after arc ≤ℤ left_on before arc
   pub spares :
       (arc : ℕ) → arc < arc_count before.net →

@@ -5,5 +5,11 @@
 #![tactic(auto)]
 
 mod blocking;
+mod cut;
+mod desk;
 mod flow;
 mod search;
+#[cfg(test)]
+mod tests;
+
+pub use desk::FlowDesk;

@@ -9,7 +9,7 @@ use Rattle.residual_graph.specs.Arcs.{tail_of, head_of, arc_count}
 use Rattle.residual_graph.specs.Places.{IsPlaceOf, begin_of, place_at}
 use Rattle.residual_graph.specs.View.{ResidualView, left_on, pushed}
 use Rattle.residual_graph.proofs.ByPlace.{between-is, begin-most}
-use Rattle.dinic_flow.specs.Phases.{LeadsOn, IsSpent, IsBlocked, IsPhase, Sends, Costs}
+use Rattle.dinic_flow.specs.Phases.{Rises, IsSpent, IsBlocked, IsPhase, Sends, Costs}
 use Rattle.dinic_flow.proofs.Relays.{IsOver, is_over, over-sends, over-blocked, phase-push, sends-both, passed-later, place_at-head}
 use Rattle.dinic_flow.proofs.Advancing.{phase-moved, sends-moved, sum-moved, pays-place, pays-passed, pays-last, unspent, below-top, sums-grow}
 use Rattle.dinic_flow.proofs.blocking.+blocking.Goals as goal

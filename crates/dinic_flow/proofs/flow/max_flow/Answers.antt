@@ -2,7 +2,7 @@
 use Rattle.std.proofs.Common.{◌≡◌, ℕ, ◌+◌, ◌*◌, ◌<◌, ◌≤◌, length, arith, ap}
 use Rattle.cut_model.specs.Net.{Net}
 use Rattle.residual_graph.specs.View.{ResidualView}
-use Rattle.dinic_flow.proofs.Growing.{Grows, grows-on, paid-all}
+use Rattle.dinic_flow.proofs.Growing.{HasGrown, grows-on, paid-all}
 use Rattle.dinic_flow.proofs.flow.max_flow.Goals as goal
 
 pub loop-graph-preserved : goal.loop-graph-preserved
