@@ -1,5 +1,5 @@
 //! A search from both ends.
-ghost use Rattle.std.specs.Prelude.{◌≡◌, ◌≢◌, ℕ, ◌+◌, ◌<◌, ◌≤◌};
+ghost use Rattle.std.specs.Prelude.{◌≡◌, ◌≢◌, ◌↔◌, ℕ, ◌+◌, ◌<◌, ◌≤◌};
 ghost use Rattle.std.specs.Prelude.{All, IsTrue, IsFalse, length, replicate};
 ghost use Rattle.std.specs.Prelude.{slice_index, slice_set};
 ghost use Rattle.residual_graph.specs.Arcs.{arc_count, arcs_from, tail_of, turned};
@@ -60,6 +60,14 @@ fn begin(centre: u32, label: &mut [u32], queue: &mut [u32]) -> Ball
     }
 }
 
+/// Whether a router has neither of two labels. One test costs less than two.
+#[inline(always)]
+fn is_new(first: u32, second: u32) -> bool
+    ensures { IsTrue result ↔ ((first ≡ 0) × (second ≡ 0)) }
+{
+    first | second == NO_LABEL
+}
+
 /// Gives the label to the head of an arc, and puts it into the queue, if the arc is open and the
 /// head has no label yet. Where the head is in the other ball, it stays so, and the balls are joined.
 /// At most one step.
@@ -95,24 +103,22 @@ fn reach<L: Ledger>(
     ensures steps { steps.new ≤ steps.old + 1 }
 {
     let head = place.head as usize;
-    if label[head] != NO_LABEL || graph.left_along(place.arc, back, steps) < least {
+    if is_new(label[head], other[head]) {
+        if graph.left_along(place.arc, back, steps) < least {
+            return Round {
+                known,
+                joined: false,
+            };
+        }
+        label[head] = next;
+        queue[known] = place.head;
         return Round {
-            known,
+            known: known + 1,
             joined: false,
         };
     }
-    if other[head] != NO_LABEL {
-        return Round {
-            known,
-            joined: true,
-        };
-    }
-    label[head] = next;
-    queue[known] = place.head;
-    Round {
-        known: known + 1,
-        joined: false,
-    }
+    let joined = label[head] == NO_LABEL && graph.left_along(place.arc, back, steps) >= least;
+    Round { known, joined }
 }
 
 /// Reaches on along the arcs of a router, until one joins the balls. At most one step an arc.

@@ -49,7 +49,7 @@ returns-then-round-clause-found g c =
     c.unlabel.new.label c.number.new.label c.spread-round.new.queue c.loop-near.behind c.loop-near.near.front
     c.loop-near.near.known c.spread-round.result.known c.loop-near.near.radius c.loop-near.far.front
     c.loop-near.far.known c.loop-near.far.radius (c.spread-round.ensures.stopped c.if-round.true) old.far_ball
-    c.spread-round.ensures.apart c.loop-near-test.true
+    c.spread-round.ensures.apart (omega (arith, c.loop-near-test.true))
     (omega (arith, c.spread-round.ensures.few, c.spread-round.auto.queue, c.loop-near.auto.ahead))
     (omega (arith, old.far_few, c.loop-near.auto.behind))
     (c.spread-round.ensures.meets c.if-round.true) c.unlabel.ensures c.number.ensures
@@ -132,7 +132,7 @@ returns-clause-found g c =
       omega (arith, old.near_few, c.loop-near.auto.ahead),
       parted c.args.graph.now c.args.least c.args.s c.args.t c.loop-near.label c.loop-near.marks
           c.loop-near.ahead c.loop-near.behind c.loop-near.near.front c.loop-near.near.known c.loop-near.near.radius
-          old.near_ball c.loop-near-test.false old.apart (omega (arith, old.near_few, c.loop-near.auto.ahead))
+          old.near_ball (omega (arith, c.loop-near-test.false)) old.apart (omega (arith, old.near_few, c.loop-near.auto.ahead))
           old.start far.centre old.end,
     )
 
