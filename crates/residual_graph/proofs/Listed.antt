@@ -87,11 +87,12 @@ few_arcs net router =
       length-range_with_len 0 (arc_count net),
     )
 
--- the arc there of a link goes to its end b, and the arc back to its end a
+-- the arc there of a link goes to its end b
 pub head-even : (net : Net) (arc : ℕ) → arc % 2 ≡ 0 → head_of net arc ≡ (get_or net.links (arc / 2) no_link).b
 unfolding head_in
 head-even net arc even = rw even refl
 
+-- and the arc back to its end a
 pub head-odd : (net : Net) (arc : ℕ) → arc % 2 ≢ 0 → head_of net arc ≡ (get_or net.links (arc / 2) no_link).a
 unfolding head_in
 head-odd net arc odd = rw (ne_eqb (arc % 2) 0 odd) refl
