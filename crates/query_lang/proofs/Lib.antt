@@ -1,4 +1,3 @@
-pub mod Examples
 pub mod Fits
 pub mod Lengths
 pub mod NameTexts

@@ -17,7 +17,7 @@ fn replies_without_a_sheet(rt: HostRuntime) -> Result<(), Fail> {
     assert_eq!(rt; buffer.bytes(), b"@1 LOADED routers 2 links 1\n".as_slice());
     bye_reply(&mut buffer, 10);
     assert_eq!(rt; buffer.bytes(), b"@10 BYE\n".as_slice());
-    refusal_reply(&mut buffer, 0, 90);
+    refusal_reply(&mut buffer, 0, 90, None);
     assert_eq!(rt; buffer.bytes(), b"@0 NO 90\n".as_slice());
     buffer.clear();
     assert_eq!(rt; buffer.bytes().len(), 0);
@@ -29,8 +29,9 @@ fn request_and_reply_of_a_cut(rt: HostRuntime) -> Result<(), Fail> {
     let mut reader = Reader::begin(rt.alloc())?;
     let _ = reader.line(b"link a b 5");
     let _ = reader.line(b"link b c 7");
+    let _ = reader.line(b"END");
     let sheet = reader.close()?;
-    assert_eq!(rt; parse_request(b"CUT a c", Some(&sheet)), Request::Cut(0, 2));
+    assert_eq!(rt; parse_request(b"CUT a c", Some(&sheet)), Ok(Request::Cut(0, 2)));
     let mut side = Side::empty(3);
     side.put(1);
     side.put(2);
@@ -44,7 +45,7 @@ fn request_and_reply_of_a_cut(rt: HostRuntime) -> Result<(), Fail> {
 #[test]
 fn a_refusal_put_into_a_sink(rt: HostRuntime) -> Result<(), Fail> {
     let mut sink = MemorySink::make(rt.alloc(), 100, Vec::new(rt.alloc()))?;
-    write_refusal(3, 1, &mut sink)?;
+    write_refusal(3, 1, None, &mut sink)?;
     assert_eq!(rt; sink.written(), b"@3 NO 1\n".as_slice());
     Ok(())
 }
