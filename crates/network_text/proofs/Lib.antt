@@ -1,5 +1,6 @@
 pub mod Adding
 pub mod Finding
+pub mod Limits
 pub mod Made
 pub mod Paddings
 pub mod Places
