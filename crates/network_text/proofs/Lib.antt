@@ -1,4 +1,5 @@
 pub mod Adding
+pub mod Examples
 pub mod Finding
 pub mod Limits
 pub mod Made
