@@ -1,4 +1,5 @@
 pub mod Finding
 pub mod Paddings
 pub mod Places
+pub mod Rereading
 pub mod SameNames
