@@ -3,3 +3,4 @@ pub mod Paddings
 pub mod Places
 pub mod Rereading
 pub mod SameNames
+pub mod SheetLines
