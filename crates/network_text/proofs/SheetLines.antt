@@ -4,6 +4,7 @@ use Rattle.std.proofs.Common.{refl, sym, ap, ◌∙◌, arith, append_assoc, len
 use Rattle.std.specs.List.{concat, AllByRecursion}
 use Rattle.std.proofs.Math.Path.{fun_ext}
 use Rattle.std.proofs.lemmas.Fmt.{length-decimal-le}
+use Rattle.std.proofs.lemmas.List.{append-nil}
 use Rattle.std.proofs.lemmas.List.Elements.{All-weaker, recursion_from_All}
 use Rattle.text_forms.specs.Lines.{fronts_of}
 use Rattle.text_forms.specs.Names.{is_name}
@@ -69,3 +70,88 @@ link_front-words names link named is =
     let cap_is = IsWord-decimal link.cap (omega arith) in
     IsLineOf-spaced (link_words names link)
     (IsWord-from_test (codes "link") refl, (IsWord-name a a_is, (IsWord-name b b_is, (cap_is, tt)))) size
+
+-- The lines of the text of a sheet that stand before its END, without their line feeds.
+abbrev pub sheet_fronts : SheetView → List (List ℕ)
+sheet_fronts sheet = map router_front sheet.names ++ map (link_front sheet.names) sheet.net.links
+
+-- The lines of the routers have their words.
+routers-words : (names : List (List ℕ)) → All (λ name. IsTrue (is_name name)) names
+    → AllByRecursion (λ name. IsLineOf (router_words name) (router_front name)) names
+routers-words names named =
+    let P : List ℕ → Type 0 = λ name. IsLineOf (router_words name) (router_front name) in
+    recursion_from_All P names (All-weaker (λ name. IsTrue (is_name name)) P router_front-words names named)
+
+-- The lines of the links have their words.
+links-words : (names : List (List ℕ)) (links : List Link) → All (λ name. IsTrue (is_name name)) names
+    → All (IsLink (length names)) links
+    → AllByRecursion (λ link. IsLineOf (link_words names link) (link_front names link)) links
+links-words names links named within =
+    let P : Link → Type 0 = λ link. IsLineOf (link_words names link) (link_front names link) in
+    recursion_from_All P links
+    (All-weaker (IsLink (length names)) P (λ link is. link_front-words names link named is) links within)
+
+-- The lines of the text of a sheet.
+fronts_of-sheet_text : (sheet : SheetView) → IsSheet sheet.names sheet.net
+    → fronts_of true (sheet_text sheet)
+    ≡ map router_front sheet.names ++ (map (link_front sheet.names) sheet.net.links ++ codes "END" ∷ [])
+unfolding sheet_text
+fronts_of-sheet_text sheet is =
+    let names = sheet.names in
+    let links = sheet.net.links in
+    let end = codes "END\n" in
+    let within : All (IsLink (length names)) links = rw is.numbered is.limits.within in
+    let text : concat (map (link_text names) links) ≡ concat (map (λ link. link_front names link ++ 10 ∷ []) links) =
+    ap (λ f. concat (map f links)) (fun_ext (link_text-front names)) in
+    let more = concat (map (link_text names) links) ++ end in
+    fronts_of-written true router_words router_front names more (routers-words names is.named)
+    ∙ ap (λ t. map router_front names ++ fronts_of true (t ++ end)) text
+    ∙ ap (λ ls. map router_front names ++ ls)
+    (fronts_of-written true (link_words names) (link_front names) links end (links-words names links is.named within))
+
+-- Before an END that follows lines without one stand these lines, and what is before it behind them.
+before_end-lines : {X : Type 0} (words : X → List (List ℕ)) (line : X → List ℕ)
+    → ((x : X) → IsLineOf (words x) (line x) → is_end (line x) ≡ false) → (xs : List X) (more : List (List ℕ))
+    → AllByRecursion (λ x. IsLineOf (words x) (line x)) xs
+    → before_end (map line xs ++ more) ≡ map line xs ++ before_end more
+before_end-lines words line no_end [] more are = refl
+before_end-lines words line no_end (x ∷ xs) more are =
+    rw (no_end x are.0) (ap (λ ls. line x ∷ ls) (before_end-lines words line no_end xs more are.1))
+
+-- Whether an END comes is told by what follows lines without one.
+has_end-lines : {X : Type 0} (words : X → List (List ℕ)) (line : X → List ℕ)
+    → ((x : X) → IsLineOf (words x) (line x) → is_end (line x) ≡ false) → (xs : List X) (more : List (List ℕ))
+    → AllByRecursion (λ x. IsLineOf (words x) (line x)) xs
+    → has_end (map line xs ++ more) ≡ has_end more
+has_end-lines words line no_end [] more are = refl
+has_end-lines words line no_end (x ∷ xs) more are =
+    rw (no_end x are.0) (has_end-lines words line no_end xs more are.1)
+
+-- The lines before the END of the text of a sheet.
+pub before_end-sheet_text : (sheet : SheetView) → IsSheet sheet.names sheet.net
+    → before_end (fronts_of true (sheet_text sheet)) ≡ sheet_fronts sheet
+before_end-sheet_text sheet is =
+    let names = sheet.names in
+    let links = sheet.net.links in
+    let lines = map (link_front names) links in
+    let end = codes "END" ∷ [] in
+    let within : All (IsLink (length names)) links = rw is.numbered is.limits.within in
+    ap before_end (fronts_of-sheet_text sheet is)
+    ∙ before_end-lines router_words router_front (λ name h. is_end-more h) names (lines ++ end) (routers-words names is.named)
+    ∙ ap (λ ls. map router_front names ++ ls)
+    (before_end-lines (link_words names) (link_front names) (λ link h. is_end-more h) links end
+    (links-words names links is.named within) ∙ append-nil lines)
+
+-- The text of a sheet has an END.
+pub has_end-sheet_text : (sheet : SheetView) → IsSheet sheet.names sheet.net
+    → has_end (fronts_of true (sheet_text sheet)) ≡ true
+has_end-sheet_text sheet is =
+    let names = sheet.names in
+    let links = sheet.net.links in
+    let lines = map (link_front names) links in
+    let end = codes "END" ∷ [] in
+    let within : All (IsLink (length names)) links = rw is.numbered is.limits.within in
+    ap has_end (fronts_of-sheet_text sheet is)
+    ∙ has_end-lines router_words router_front (λ name h. is_end-more h) names (lines ++ end) (routers-words names is.named)
+    ∙ has_end-lines (link_words names) (link_front names) (λ link h. is_end-more h) links end
+    (links-words names links is.named within)

@@ -1,0 +1,80 @@
+-- What the lines of a sheet make of a draft.
+use Rattle.std.proofs.Common.{◌≡◌, ◌≢◌, ℕ, ◌+◌, ◌≤◌, ◌<◌, List, [], ◌∷◌, ◌++◌, true, false, length, map, fold, refl, sym, ap}
+use Rattle.std.proofs.Common.{◌∙◌, arith, subst, append_assoc, length-append, All, AllPairs, IsTrue, Ok, codes, decimal}
+use Rattle.std.specs.List.{AllByRecursion}
+use Rattle.std.proofs.lemmas.Bool.{le-ltb, lt-leb}
+use Rattle.std.proofs.lemmas.List.{append-nil}
+use Rattle.std.proofs.lemmas.List.Elements.{All-head, All-tail}
+use Rattle.text_forms.specs.Names.{is_name}
+use Rattle.text_forms.proofs.Decimals.{number_in-decimal}
+use Rattle.text_forms.proofs.Written.{IsLineOf, is_long-short, is_passed-word}
+use Rattle.cut_model.specs.Net.{IsLink}
+use Rattle.cut_model.specs.declared.network.Link.{Link}
+use Rattle.network_text.specs.Texts.{Draft, Progress, after_line, with_line, with_words, with_link_among, place_of}
+use Rattle.network_text.specs.Writing.{name_at}
+use Rattle.network_text.proofs.SheetLines.{router_words, router_front, router_front-words, link_words, link_front}
+use Rattle.network_text.proofs.SheetLines.{link_front-words, name_at-is_name}
+use Rattle.network_text.proofs.SheetNames.{with_name-new, with_ends-known, place_of-name_at}
+
+-- The draft of these names and links.
+abbrev pub draft_of : List (List ℕ) → List Link → Draft
+draft_of names links = record { names = names; links = links }
+
+-- A line that is no remark adds what its words say.
+with_line-words : {b : ℕ} {word : List ℕ} {words : List (List ℕ)} {line : List ℕ} (draft : Draft)
+    → IsLineOf ((b ∷ word) ∷ words) line → b ≢ 35 → with_line draft line ≡ with_words draft ((b ∷ word) ∷ words)
+with_line-words draft is other = rw (is_passed-word is other, is_long-short is, is.parts) refl
+
+-- The words of a router whose name is new add the name.
+with_words-router : (names : List (List ℕ)) (name : List ℕ) (rest : List (List ℕ)) (links : List Link)
+    → AllPairs (λ first second. first ≢ second) (names ++ name ∷ rest) → is_name name ≡ true
+    → length (names ++ name ∷ []) ≤ 1024
+    → with_words (draft_of names links) (router_words name) ≡ Ok (draft_of (names ++ name ∷ []) links)
+with_words-router names name rest links differ is few =
+    rw (is, with_name-new names name rest differ, le-ltb 1024 (length (names ++ name ∷ [])) few) refl
+
+-- A link that keeps the limits is added.
+with_link_among-fits : (names : List (List ℕ)) (links : List Link) (link : Link) → link.cap ≤ 1000000000000
+    → length names ≤ 1024 → length links < 8192
+    → with_link_among names links link ≡ Ok (draft_of names (links ++ link ∷ []))
+with_link_among-fits names links link cap routers few =
+    rw (le-ltb 1000000000000 link.cap cap, le-ltb 1024 (length names) routers, lt-leb 8192 (length links) few) refl
+
+-- The words of a link among names that differ add the link.
+with_words-link : (names : List (List ℕ)) (links : List Link) (link : Link)
+    → AllPairs (λ first second. first ≢ second) names → All (λ name. IsTrue (is_name name)) names
+    → IsLink (length names) link → length names ≤ 1024 → length links < 8192
+    → with_words (draft_of names links) (link_words names link) ≡ Ok (draft_of names (links ++ link ∷ []))
+with_words-link names links link differ named is routers few =
+    let most = is.cap in
+    rw (
+      name_at-is_name names link.a named is.a,
+      name_at-is_name names link.b named is.b,
+      number_in-decimal link.cap (omega arith),
+      with_ends-known names link.a link.b is.a is.b,
+      place_of-name_at names link.a differ is.a,
+      place_of-name_at names link.b differ is.b,
+    ) (with_link_among-fits names links link is.cap routers few)
+
+-- A line that isn't faulty changes the draft as it says.
+after_line-draft : (progress : Progress) (old new : Draft) (line : List ℕ) → progress.draft ≡ Ok old
+    → with_line old line ≡ Ok new → (after_line progress line).draft ≡ Ok new
+after_line-draft progress old new line before adds = rw (before, adds) refl
+
+-- The lines of routers add their names.
+pub draft-routers : (progress : Progress) (done names : List (List ℕ)) → progress.draft ≡ Ok (draft_of done [])
+    → AllPairs (λ first second. first ≢ second) (done ++ names) → All (λ name. IsTrue (is_name name)) names
+    → length (done ++ names) ≤ 1024
+    → (fold after_line progress (map router_front names)).draft ≡ Ok (draft_of (done ++ names) [])
+draft-routers progress done [] before differ named few = rw append-nil before
+draft-routers progress done (name ∷ names) before differ named few =
+    let one = done ++ name ∷ [] in
+    let all : one ++ names ≡ done ++ name ∷ names = append_assoc done (name ∷ []) names in
+    let is = All-head (λ name. IsTrue (is_name name)) name names named in
+    let size : length one ≤ 1024 =
+    omega (arith, few, length-append done (name ∷ names), length-append done (name ∷ [])) in
+    let line = with_line-words (draft_of done []) (router_front-words name is) (λ e. absurd (omega arith)) in
+    let adds = line ∙ with_words-router done name names [] differ is size in
+    let after = after_line-draft progress (draft_of done []) (draft_of one []) (router_front name) before adds in
+    let rest = draft-routers (after_line progress (router_front name)) one names after (rw all differ)
+    (All-tail (λ name. IsTrue (is_name name)) name names named) (rw all few) in rw all at rest
