@@ -4,15 +4,17 @@ use Rattle.std.proofs.Common.{◌∙◌, arith, subst, append_assoc, length-appe
 use Rattle.std.specs.List.{AllByRecursion}
 use Rattle.std.proofs.lemmas.Bool.{le-ltb, lt-leb}
 use Rattle.std.proofs.lemmas.List.{append-nil}
+use Rattle.std.proofs.lemmas.List.Sums.{fold-append}
 use Rattle.std.proofs.lemmas.List.Elements.{All-head, All-tail}
 use Rattle.text_forms.specs.Names.{is_name}
 use Rattle.text_forms.proofs.Decimals.{number_in-decimal}
 use Rattle.text_forms.proofs.Written.{IsLineOf, is_long-short, is_passed-word}
 use Rattle.cut_model.specs.Net.{IsLink}
 use Rattle.cut_model.specs.declared.network.Link.{Link}
-use Rattle.network_text.specs.Texts.{Draft, Progress, after_line, with_line, with_words, with_link_among, place_of}
+use Rattle.network_text.specs.Sheets.{SheetView, IsSheet}
+use Rattle.network_text.specs.Texts.{Draft, Progress, after_line, at_start, progress_of, with_line, with_words, with_link_among}
 use Rattle.network_text.specs.Writing.{name_at}
-use Rattle.network_text.proofs.SheetLines.{router_words, router_front, router_front-words, link_words, link_front}
+use Rattle.network_text.proofs.SheetLines.{router_words, router_front, router_front-words, link_words, link_front, sheet_fronts}
 use Rattle.network_text.proofs.SheetLines.{link_front-words, name_at-is_name}
 use Rattle.network_text.proofs.SheetNames.{with_name-new, with_ends-known, place_of-name_at}
 
@@ -78,3 +80,37 @@ draft-routers progress done (name ∷ names) before differ named few =
     let after = after_line-draft progress (draft_of done []) (draft_of one []) (router_front name) before adds in
     let rest = draft-routers (after_line progress (router_front name)) one names after (rw all differ)
     (All-tail (λ name. IsTrue (is_name name)) name names named) (rw all few) in rw all at rest
+
+-- The lines of links among names that differ add the links.
+pub draft-links : (progress : Progress) (names : List (List ℕ)) (done links : List Link)
+    → progress.draft ≡ Ok (draft_of names done) → AllPairs (λ first second. first ≢ second) names
+    → All (λ name. IsTrue (is_name name)) names → length names ≤ 1024 → All (IsLink (length names)) links
+    → length (done ++ links) ≤ 8192
+    → (fold after_line progress (map (link_front names) links)).draft ≡ Ok (draft_of names (done ++ links))
+draft-links progress names done [] before differ named routers within few = rw append-nil before
+draft-links progress names done (link ∷ links) before differ named routers within few =
+    let one = done ++ link ∷ [] in
+    let all : one ++ links ≡ done ++ link ∷ links = append_assoc done (link ∷ []) links in
+    let is = All-head (IsLink (length names)) link links within in
+    let room : length done < 8192 = omega (arith, few, length-append done (link ∷ links)) in
+    let line = with_line-words (draft_of names done) (link_front-words names link named is) (λ e. absurd (omega arith)) in
+    let adds = line ∙ with_words-link names done link differ named is routers room in
+    let front = link_front names link in
+    let after = after_line-draft progress (draft_of names done) (draft_of names one) front before adds in
+    let rest = draft-links (after_line progress front) names one links after differ named routers
+    (All-tail (IsLink (length names)) link links within) (rw all few) in rw all at rest
+
+-- The lines of a sheet give its names and links.
+pub draft-sheet : (sheet : SheetView) → IsSheet sheet.names sheet.net
+    → (progress_of (sheet_fronts sheet)).draft ≡ Ok (draft_of sheet.names sheet.net.links)
+draft-sheet sheet is =
+    let names = sheet.names in
+    let links = sheet.net.links in
+    let numbered = is.numbered in
+    let few : length names ≤ 1024 = let most = is.limits.few_routers in omega arith in
+    let within : All (IsLink (length names)) links = rw numbered is.limits.within in
+    let named = draft-routers at_start [] names refl is.distinct is.named few in
+    let after = fold after_line at_start (map router_front names) in
+    let linked = draft-links after names [] links named is.distinct is.named few within is.limits.few_links in
+    ap (λ (p : Progress). p.draft)
+    (fold-append after_line at_start (map router_front names) (map (link_front names) links)) ∙ linked
