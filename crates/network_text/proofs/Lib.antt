@@ -6,3 +6,4 @@ pub mod SameNames
 pub mod SheetDrafts
 pub mod SheetLines
 pub mod SheetNames
+pub mod WritingExamples
