@@ -1,4 +1,8 @@
+pub mod Adding
+pub mod Examples
 pub mod Finding
+pub mod Limits
+pub mod Made
 pub mod Paddings
 pub mod Places
 pub mod Rereading
