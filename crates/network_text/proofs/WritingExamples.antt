@@ -1,7 +1,6 @@
 -- Small sheets as texts, and what texts as bytes say, by computing.
-use Rattle.std.proofs.Common.{◌≡◌, ℕ, List, [], ◌∷◌, ◌++◌, Ok, Err, refl, codes}
+use Rattle.std.proofs.Common.{◌≡◌, [], ◌∷◌, Ok, Err, refl, codes}
 use Rattle.std.specs.Fmt.{digits}
-use Rattle.cut_model.specs.Net.{Net}
 use Rattle.network_text.specs.Sheets.{SheetView}
 use Rattle.network_text.specs.Writing.{sheet_text, verdict_in}
 use Rattle.network_text.specs.declared.fault.TextKind.TheVariants.{EndedEarly, NoTerminal}

@@ -1,5 +1,6 @@
 -- Numbers as they are written.
-use Rattle.std.proofs.Common.{◌≡◌, ℕ, ◌+◌, ◌*◌, ◌-◌, ◌^◌, ◌<◌, List, true, fold, decimal, length, Some, refl, arith, rules}
+use Rattle.std.proofs.Common.{◌≡◌, ℕ, ◌+◌, ◌*◌, ◌-◌, ◌^◌, ◌<◌, List, true, fold, decimal, length, Some, refl}
+use Rattle.std.proofs.Common.{arith, rules}
 use Rattle.std.specs.List.{list_all}
 use Rattle.std.proofs.lemmas.Bool.{lt-ltb}
 use Rattle.std.proofs.lemmas.Bool.Decides.{nat_tests}
@@ -23,11 +24,15 @@ pub is_number-decimal : (n : ℕ) → n < 2 ^ 64 → is_number (decimal n) ≡ t
 is_number-decimal n small =
     rw (lt-ltb 0 (length (decimal n)) (decimal_nonempty n small), digits_decimal numerals n small) refl
 
+-- It has the value of which it was written.
+pub number_in-decimal : (n : ℕ) → n < 2 ^ 64 → number_in (decimal n) ≡ Some n
+number_in-decimal n small = rw (is_number-decimal n small, digits_value-decimal numerals n small) refl
+
 -- A digit is above the space.
 digit-above : (b : ℕ) → is_digit b ≡ true → 32 < b
 digit-above b is = grind (arith, nat_tests)
 
--- It is a word.
+-- A number that is written is a word of a line.
 pub IsWord-decimal : (n : ℕ) → n < 2 ^ 64 → IsWord (decimal n)
 IsWord-decimal n small =
     let all = AllPass-from_list_all is_digit (decimal n) (digits_decimal numerals n small) in
@@ -35,7 +40,3 @@ IsWord-decimal n small =
       some = decimal_nonempty n small;
       bytes = All-weaker (λ b. is_digit b ≡ true) (λ b. 32 < b) digit-above (decimal n) all;
     }
-
--- And its value is what was written.
-pub number_in-decimal : (n : ℕ) → n < 2 ^ 64 → number_in (decimal n) ≡ Some n
-number_in-decimal n small = rw (is_number-decimal n small, digits_value-decimal numerals n small) refl

@@ -13,15 +13,16 @@ use Rattle.text_forms.specs.Words.{is_passed, is_end, line_words, words_of, with
 use Rattle.text_forms.proofs.LinesOf.{fronts_of-line}
 use Rattle.text_forms.proofs.Splitting.{words-of_word, is_letter}
 
--- One byte or more, each above the space.
+-- A word: one byte or more, each above the space.
 pub record IsWord (word : List ℕ) : Type 0 where
   pub some : 0 < length word
   pub bytes : All (λ b. 32 < b) word
 
--- The test of that.
+-- Whether bytes are such a word.
 abbrev pub is_word : List ℕ → Bool
 is_word word = nat_lt 0 (length word) && list_all (nat_lt 32) word
 
+-- A word of which this is computed.
 pub IsWord-from_test : (word : List ℕ) → is_word word ≡ true → IsWord word
 IsWord-from_test word passes =
     let parts = and_parts (nat_lt 0 (length word)) (list_all (nat_lt 32) word) passes in
@@ -35,23 +36,27 @@ IsWord-from_test word passes =
 name_byte-above : (b : ℕ) → is_name_byte b ≡ true → 32 < b
 name_byte-above b is = grind (arith, nat_tests)
 
--- A name is a word.
+-- A name has 1 to 32 bytes.
+name_size : (name : List ℕ) → is_name name ≡ true → (0 < length name) × (length name ≤ 32)
+name_size name is =
+    let sized = nat_lt 0 (length name) && nat_le (length name) 32 in
+    let size = and_parts sized (list_all is_name_byte name) is in
+    let parts = and_parts (nat_lt 0 (length name)) (nat_le (length name) 32) size.0 in
+    (ltb-true 0 (length name) parts.0, leb-true (length name) 32 parts.1)
+
+-- So it has at most 32.
+pub length-name : (name : List ℕ) → is_name name ≡ true → length name ≤ 32
+length-name name is = (name_size name is).1
+
+-- A name is a word of a line.
 pub IsWord-name : (name : List ℕ) → is_name name ≡ true → IsWord name
-IsWord-name name is = 
-    let sized = and_parts (nat_lt 0 (length name)) (nat_le (length name) 32) in
-    let parts = and_parts (nat_lt 0 (length name) && nat_le (length name) 32) (list_all is_name_byte name) is in
-    let all = AllPass-from_list_all is_name_byte name parts.1 in
+IsWord-name name is =
+    let sized = nat_lt 0 (length name) && nat_le (length name) 32 in
+    let all = AllPass-from_list_all is_name_byte name (and_parts sized (list_all is_name_byte name) is).1 in
     record {
-      some = ltb-true 0 (length name) (sized parts.0).0;
+      some = (name_size name is).0;
       bytes = All-weaker (λ b. is_name_byte b ≡ true) (λ b. 32 < b) name_byte-above name all;
     }
-
--- A name has at most 32 bytes.
-pub length-name : (name : List ℕ) → is_name name ≡ true → length name ≤ 32
-length-name name is = 
-    let sized = and_parts (nat_lt 0 (length name)) (nat_le (length name) 32) in
-    let parts = and_parts (nat_lt 0 (length name) && nat_le (length name) 32) (list_all is_name_byte name) is in
-    leb-true (length name) 32 (sized parts.0).1
 
 -- Words with one space between each two.
 abbrev pub spaced : List (List ℕ) → List ℕ
