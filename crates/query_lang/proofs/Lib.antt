@@ -1,3 +1,4 @@
 pub mod Fits
 pub mod Lengths
 pub mod NameTexts
+pub mod RequestKinds

@@ -17,15 +17,18 @@ loaded_text version net = concat (codes "@" ∷ decimal version ∷ codes " LOAD
 unfoldable pub bye_text : ℕ → List ℕ
 bye_text version = concat (codes "@" ∷ decimal version ∷ codes " BYE\n" ∷ [])
 
--- The line of a refusal that tells of a line, and nothing where it tells of none.
+-- The first words of a refusal: the number of its reason.
+abbrev pub refusal_head : ℕ → ℕ → List ℕ
+refusal_head version number = concat (codes "@" ∷ decimal version ∷ codes " NO " ∷ decimal number ∷ [])
+
+-- The line of which a refusal tells, and nothing where it tells of none.
 abbrev pub line_piece : Option ℕ → List ℕ
 line_piece None = []
 line_piece (Some line) = concat (codes " line " ∷ decimal line ∷ [])
 
 -- A request was refused, for the reason that the number stands for; that of a network text tells the faulty line.
 unfoldable pub refused_text : ℕ → ℕ → Option ℕ → List ℕ
-refused_text version number line =
-    concat (codes "@" ∷ decimal version ∷ codes " NO " ∷ decimal number ∷ line_piece line ∷ codes "\n" ∷ [])
+refused_text version number line = refusal_head version number ++ (line_piece line ++ codes "\n")
 
 -- The first line of a reply: its word, and how many lines follow.
 abbrev pub head_text : ℕ → List ℕ → ℕ → List ℕ

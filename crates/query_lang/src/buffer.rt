@@ -92,13 +92,6 @@ impl ReplyBuffer {
     {
         self.gathered.bytes.as_slice()
     }
-
-    /// Empties the buffer. Its room stays.
-    pub fn clear(&mut self)
-        ensures { self.new ≡ [] }
-    {
-        self.gathered.bytes.clear();
-    }
 }
 
 /// Gathers the reply to an accepted network, in place of what the buffer had.
@@ -126,7 +119,7 @@ pub fn cut_reply(buffer: &mut ReplyBuffer, version: u32, value: u64, sheet: &She
 pub fn net_reply(buffer: &mut ReplyBuffer, version: u32, sheet: &Sheet)
     ensures { buffer.new ≡ net_text version sheet.now }
 {
-    prove!(sheet.net().routers() <= 1024);
+    prove!(sheet.net().links().len() <= 8192);
     let gathered = &mut buffer.gathered;
     gathered.bytes.clear();
     write_reply(version, sheet, &Request::Net, gathered).unwrap();

@@ -2,7 +2,8 @@
 //! there is none, and ends with a line feed. No call takes memory.
 ghost use Rattle.std.specs.Prelude.{◌≡◌, ℕ, ◌<◌, List, [], Bool, length, slice_index_or, false};
 ghost use Rattle.query_lang.specs.Replies.{bye_text, cut_head, cut_text, loaded_text, name_piece};
-ghost use Rattle.query_lang.specs.Replies.{head_text, line_piece, net_text, refused_text, reply_text, side_names};
+ghost use Rattle.query_lang.specs.Replies.{head_text, line_piece, net_text, refusal_head, refused_text};
+ghost use Rattle.query_lang.specs.Replies.{reply_text, sheet_lines, side_names};
 ghost use Rattle.query_lang.specs.Requests.{IsReported};
 ghost use Rattle.wires.specs.Puts.{Puts};
 
@@ -66,6 +67,16 @@ pub fn write_refusal<K: Sink>(
     ensures puts { Puts K.written K.write_faults K.beside_sink K.takes sink.old sink.new result
         (refused_text version number line) }
 {
+    write_refusal_head(version, number, sink)?;
+    write_line_number(line, sink)?;
+    put_pieces(&[b"\n"], sink)
+}
+
+/// Writes the first words of a refusal, up to the number of its reason.
+fn write_refusal_head<K: Sink>(version: u32, number: u32, sink: &mut K) -> Result<(), Failed>
+    ensures puts { Puts K.written K.write_faults K.beside_sink K.takes sink.old sink.new result
+        (refusal_head version number) }
+{
     let mut version_digits = Buffer::new();
     let mut number_digits = Buffer::new();
     put_pieces(
@@ -76,9 +87,7 @@ pub fn write_refusal<K: Sink>(
             number_digits.format(number).as_bytes(),
         ],
         sink,
-    )?;
-    write_line_number(line, sink)?;
-    put_pieces(&[b"\n"], sink)
+    )
 }
 
 /// Writes which line a refusal tells of, where it tells of one.
@@ -98,12 +107,7 @@ fn write_line_number<K: Sink>(line: Option<u32>, sink: &mut K) -> Result<(), Fai
 ///
 /// # Errors
 /// [`Failed`] where a put failed. A front of the line was written then.
-pub fn write_head<K: Sink>(
-    version: u32,
-    word: &str,
-    lines: u64,
-    sink: &mut K,
-) -> Result<(), Failed>
+pub fn write_head<K: Sink>(version: u32, word: &str, lines: u64, sink: &mut K) -> Result<(), Failed>
     ensures puts { Puts K.written K.write_faults K.beside_sink K.takes sink.old sink.new result
         (head_text version word.now lines) }
 {
@@ -123,15 +127,22 @@ pub fn write_head<K: Sink>(
     )
 }
 
-/// Writes the network as a text that loads it again, behind a first line that tells its number of lines.
+/// How many lines the network text of a sheet has.
+fn line_count(sheet: &Sheet) -> u64
+    ensures { result ≡ sheet_lines sheet.now }
+{
+    let net = sheet.net();
+    u64::from(net.routers()) + net.links().len() as u64 + 1
+}
+
+/// Writes the network as a text that loads it again, behind a first line that tells its number of
+/// lines.
 #[tactic(auto, unfolding(crate::specs::Replies::net_text))]
 fn write_net<K: Sink>(version: u32, sheet: &Sheet, sink: &mut K) -> Result<(), Failed>
     ensures puts { Puts K.written K.write_faults K.beside_sink K.takes sink.old sink.new result
         (net_text version sheet.now) }
 {
-    let net = sheet.net();
-    let lines = u64::from(net.routers()) + net.links().len() as u64 + 1;
-    write_head(version, "NET", lines, sink)?;
+    write_head(version, "NET", line_count(sheet), sink)?;
     write_sheet(sheet, sink)
 }
 
@@ -149,10 +160,10 @@ pub fn write_reply<K: Sink>(
     ensures puts { Puts K.written K.write_faults K.beside_sink K.takes sink.old sink.new result
         (reply_text version sheet.now request.now) }
 {
-    match request {
-        Request::Net => write_net(version, sheet, sink),
-        _ => unreachable!(),
-    }
+    let Request::Net = request else {
+        unreachable!()
+    };
+    write_net(version, sheet, sink)
 }
 
 /// Writes a space and the name of the router, where it is in the side.

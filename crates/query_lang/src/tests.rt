@@ -19,8 +19,6 @@ fn replies_without_a_sheet(rt: HostRuntime) -> Result<(), Fail> {
     assert_eq!(rt; buffer.bytes(), b"@10 BYE\n".as_slice());
     refusal_reply(&mut buffer, 0, 90, None);
     assert_eq!(rt; buffer.bytes(), b"@0 NO 90\n".as_slice());
-    buffer.clear();
-    assert_eq!(rt; buffer.bytes().len(), 0);
     Ok(())
 }
 
@@ -31,7 +29,10 @@ fn request_and_reply_of_a_cut(rt: HostRuntime) -> Result<(), Fail> {
     let _ = reader.line(b"link b c 7");
     let _ = reader.line(b"END");
     let sheet = reader.close()?;
-    assert_eq!(rt; parse_request(b"CUT a c", Some(&sheet)), Ok(Request::Cut(0, 2)));
+    assert_eq!(rt;
+        parse_request(b"CUT a c", Some(&sheet)),
+        Ok(Request::Cut(0, 2))
+    );
     let mut side = Side::empty(3);
     side.put(1);
     side.put(2);
