@@ -56,8 +56,8 @@ awk 'BEGIN {
     print "END"
 }' >"$room/links"
 {
-    awk '$1 == "link" { for (i = 2; i < 4; i++) if (!($i in seen)) { print "router " $i; seen[$i] } }' \
-        "$room/links"
+    awk '$1 == "link" { print $2; print $3 }' "$room/links" |
+        awk '!seen[$0]++ { print "router " $0 }'
     cat "$room/links"
 } >"$room/told"
 {
