@@ -34,6 +34,7 @@ digits_64 : (n : ℕ) → length (decimal n) ≤ 64
 unfolding digits
 digits_64 n = length-digits_onto 64 10 false n []
 
+-- The reply to the end of a session fits.
 pub length-bye_text : (version : ℕ) → length (bye_text version) ≤ 740000
 unfolding bye_text
 length-bye_text version = simp length-append (omega (arith, digits_64 version))
@@ -43,12 +44,14 @@ length-line_piece : (line : Option ℕ) → length (line_piece line) ≤ 70
 length-line_piece None = omega arith
 length-line_piece (Some line) = simp length-append (omega (arith, digits_64 line))
 
+-- A refusal fits.
 pub length-refused_text : (version number : ℕ) (line : Option ℕ) → length (refused_text version number line) ≤ 740000
 unfolding refused_text
 length-refused_text version number line =
     let piece = length-line_piece line in
     simp length-append (omega (arith, digits_64 version, digits_64 number))
 
+-- The reply to an accepted network fits.
 pub length-loaded_text : (version : ℕ) (net : Net) → length (loaded_text version net) ≤ 740000
 unfolding loaded_text
 length-loaded_text version net =
@@ -59,6 +62,7 @@ length-name_piece : (name : List ℕ) (inside : Bool) → length name ≤ 32 →
 length-name_piece name true short = simp length-append (omega arith)
 length-name_piece name false short = omega arith
 
+-- The first words of a cut.
 length-cut_head : (version value : ℕ) → length (cut_head version value) ≤ 139
 length-cut_head version value = simp length-append (omega (arith, digits_64 version, digits_64 value))
 
@@ -77,6 +81,7 @@ length-side_names (name ∷ names) (inside ∷ side) named =
     let behind = length-side_names names side (All-tail (λ text. IsTrue (is_name text)) name names named) in
     omega (arith, length-append (name_piece name inside) (side_names names side), here, behind)
 
+-- A cut fits: 33 bytes for each of 1,024 names, and some more.
 pub length-cut_text : (version value : ℕ) (names : List (List ℕ)) (net : Net) (side : List Bool)
     → IsSheet names net → length (cut_text version value names side) ≤ 740000
 unfolding cut_text
@@ -144,6 +149,7 @@ length-sheet_text sheet is =
       behind,
     )
 
+-- The network fits: its lines, and the first line.
 pub length-net_text : (version : ℕ) (sheet : SheetView) → IsSheet sheet.names sheet.net
     → length (net_text version sheet) ≤ 740000
 unfolding net_text

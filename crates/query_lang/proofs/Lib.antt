@@ -1,4 +1,6 @@
+pub mod Examples
 pub mod Fits
 pub mod Lengths
 pub mod NameTexts
 pub mod RequestKinds
+pub mod SameNames

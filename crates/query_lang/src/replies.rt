@@ -146,7 +146,7 @@ fn write_net<K: Sink>(version: u32, sheet: &Sheet, sink: &mut K) -> Result<(), F
     write_sheet(sheet, sink)
 }
 
-/// Writes the reply to a request that tells of a whole record; for now NET alone.
+/// Writes the reply to a request that tells of a whole record. NET is the one that there is.
 ///
 /// # Errors
 /// [`Failed`] where a put failed. A front of the reply was written then.
@@ -167,6 +167,7 @@ pub fn write_reply<K: Sink>(
 }
 
 /// Writes a space and the name of the router, where it is in the side.
+#[tactic(auto, using(std::proofs::lemmas::Option::get_or_from_slice_get))]
 fn write_name<K: Sink>(sheet: &Sheet, side: &Side, router: u32, sink: &mut K) -> Result<(), Failed>
     requires named { router < length sheet.now.names }
     requires sided { router < length side.now }
