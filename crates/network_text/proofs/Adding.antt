@@ -1,92 +1,62 @@
--- A link that is added to the names and links of a text.
-use Rattle.std.proofs.Common.{◌≡◌, ℕ, ◌<◌, List, [], ◌∷◌, ◌++◌, true, false, Some, None, length}
-use Rattle.std.proofs.Common.{refl, sym, ap, subst, ◌∙◌, arith}
+-- What a line adds to the names and links of a text.
+use Rattle.std.proofs.Common.{◌≡◌, ℕ, ◌-◌, ◌^◌, ◌<◌, List, [], ◌∷◌, true, min, nat_lt}
+use Rattle.std.proofs.Common.{Option, Some, None, refl, sym, ap, ◌∙◌, inl, inr, arith}
 use Rattle.std.specs.List.{position_or_len}
+use Rattle.std.specs.Option.{option_map}
+use Rattle.std.proofs.lemmas.Bool.{cases_Bool, ltb-true, ltb-false, lt-ltb}
 use Rattle.indexmap.specs.IndexSet.{insert_key}
-use Rattle.cut_model.specs.declared.network.Link.{Link}
-use Rattle.network_text.specs.Texts.{Draft, with_name, with_ends, place_of, is_beyond, with_link}
+use Rattle.text_forms.specs.Names.{is_name}
+use Rattle.text_forms.specs.Numbers.{number_in}
+use Rattle.network_text.specs.Texts.{Draft, with_name, place_of, with_link, with_capacity, link_line}
 use Rattle.network_text.specs.contracts.name.NamePartialEq.TheImpl.{eq-value}
 use Rattle.network_text.proofs.SameNames.{eq-bytes_eq}
-use Rattle.network_text.proofs.Places.{place_of-own, place_of-kept}
+use Rattle.network_text.proofs.Places.{place_of-own}
 
--- the set of names takes in a name at the end where it is new
-inserted : (keys new : List (List ℕ)) (name : List ℕ) → new ≡ insert_key (eq-value).it keys name
+-- The set of names takes in a name at the end where it is new,
+pub inserted : (keys new : List (List ℕ)) (name : List ℕ) → new ≡ insert_key (eq-value).it keys name
     → new ≡ with_name keys name
 inserted keys new name e = e ∙ ap (λ eq. insert_key eq keys name) eq-bytes_eq
 
--- and tells its place
-placed : (keys : List (List ℕ)) (name : List ℕ) (place : ℕ) → place ≡ position_or_len ((eq-value).it name) keys
-    → place_of (with_name keys name) name ≡ place
-placed keys name place e = place_of-own keys name ∙ sym (e ∙ ap (λ eq. position_or_len (eq name) keys) eq-bytes_eq)
+-- and tells its place.
+pub placed : (keys new : List (List ℕ)) (name : List ℕ) (place : ℕ) → new ≡ insert_key (eq-value).it keys name
+    → place ≡ position_or_len ((eq-value).it name) keys → place ≡ place_of new name
+placed keys new name place e at =
+    at ∙ ap (λ eq. position_or_len (eq name) keys) eq-bytes_eq
+    ∙ sym (place_of-own keys name) ∙ ap (λ names. place_of names name) (sym (inserted keys new name e))
 
--- what the set of names did with the two names of a link: the keys before, between and after, and the places
-pub record Inserts (keys between after : List (List ℕ)) (first second : List ℕ) (a b : ℕ) : Type 0 where
-  pub first_keys : between ≡ insert_key (eq-value).it keys first
-  pub first_place : a ≡ position_or_len ((eq-value).it first) keys
-  pub first_below : a < length between
-  pub second_keys : after ≡ insert_key (eq-value).it between second
-  pub second_place : b ≡ position_or_len ((eq-value).it second) between
+-- A capacity that is too large may be told as any that is.
+with_link-too_large : (draft : Draft) (first second : List ℕ) (cap other : ℕ)
+    → 1000000000000 < cap → 1000000000000 < other → with_link draft first second cap ≡ with_link draft first second other
+with_link-too_large draft first second cap other large also =
+    let cap_test : nat_lt 1000000000000 cap ≡ true = lt-ltb _ _ large in
+    let other_test : nat_lt 1000000000000 other ≡ true = lt-ltb _ _ also in
+    rw (cap_test, other_test) refl
 
--- the names of the link stand in order
-ends-inserted : (keys between after : List (List ℕ)) (first second : List ℕ) (a b : ℕ)
-    → Inserts keys between after first second a b → after ≡ with_ends keys first second
-ends-inserted keys between after first second a b h =
-    inserted between after second h.second_keys
-    ∙ ap (λ names. with_name names second) (inserted keys between first h.first_keys)
+-- So a number past 64 bits may be told as the largest of 64 bits.
+with_link-capped : (draft : Draft) (first second : List ℕ) (cap : ℕ)
+    → with_link draft first second cap ≡ with_link draft first second (min (2 ^ 64 - 1) cap)
+with_link-capped draft first second cap =
+    elim (cases_Bool (nat_lt (2 ^ 64 - 1) cap)) [
+      | inl past ↦ with_link-too_large draft first second cap (min (2 ^ 64 - 1) cap)
+          (let h = ltb-true _ _ past in omega arith) (let h = ltb-true _ _ past in omega arith)
+      | inr fits ↦
+          let same : cap ≡ min (2 ^ 64 - 1) cap = (let h = ltb-false _ _ fits in omega arith) in
+          ap (λ n. with_link draft first second n) same
+    ]
 
-first-placed : (keys between after : List (List ℕ)) (first second : List ℕ) (a b : ℕ)
-    → Inserts keys between after first second a b → place_of (with_ends keys first second) first ≡ a
-first-placed keys between after first second a b h =
-    let names : between ≡ with_name keys first = inserted keys between first h.first_keys in
-    let place : place_of (with_name keys first) first ≡ a = placed keys first a h.first_place in
-    let size = ap (λ (xs : List (List ℕ)). length xs) names in
-    place_of-kept (with_name keys first) first second (omega (arith, place, size, h.first_below)) ∙ place
+with_capacity-capped : (draft : Draft) (first second : List ℕ) (number : Option ℕ) (cap : ℕ)
+    → Some cap ≡ option_map (min (2 ^ 64 - 1)) number
+    → with_capacity draft first second number ≡ with_link draft first second cap
+with_capacity-capped draft first second None cap e = absurd (cc)
+with_capacity-capped draft first second (Some value) cap e =
+    let capped : min (2 ^ 64 - 1) value ≡ cap = cc in
+    with_link-capped draft first second value ∙ ap (λ n. with_link draft first second n) capped
 
-second-placed : (keys between after : List (List ℕ)) (first second : List ℕ) (a b : ℕ)
-    → Inserts keys between after first second a b → place_of (with_ends keys first second) second ≡ b
-second-placed keys between after first second a b h =
-    let names : between ≡ with_name keys first = inserted keys between first h.first_keys in
-    subst (λ (xs : List (List ℕ)). place_of (with_name xs second) second ≡ b) names
-    (placed between second b h.second_place)
-
-joined : (keys ends : List (List ℕ)) (links : List Link) (first second : List ℕ) (cap a b : ℕ)
-    → ends ≡ with_ends keys first second
-    → place_of (with_ends keys first second) first ≡ a → place_of (with_ends keys first second) second ≡ b
-    → is_beyond cap (length ends) (length links) ≡ false
-    → with_link (record { names = keys; links = links }) first second (Some cap)
-    ≡ Some (record { names = ends; links = links ++ record { a = a; b = b; cap = cap } ∷ [] })
-joined keys ends links first second cap a b e first_at second_at within =
-    let inside = subst (λ (xs : List (List ℕ)). is_beyond cap (length xs) (length links) ≡ false) e within in
-    rw (inside, first_at, second_at) (
-    let more : List Link = links ++ record { a = a; b = b; cap = cap } ∷ [] in
-    ap (λ (xs : List (List ℕ)). Some (let made : Draft = record { names = xs; links = more } in made)) (sym e))
-
--- the link is added as the text says
-pub with_link-added : (draft : Draft) (keys between after : List (List ℕ)) (links more : List Link)
-    (first second : List ℕ) (cap a b routers count : ℕ)
-    → (let made : Draft = record { names = keys; links = links } in made) ≡ draft
-    → Inserts keys between after first second a b
-    → false ≡ is_beyond cap routers count → routers ≡ length after → count ≡ length links
-    → more ≡ links ++ record { a = a; b = b; cap = cap } ∷ []
-    → with_link draft first second (Some cap) ≡ Some (record { names = after; links = more })
-with_link-added draft keys between after links more first second cap a b routers count view h within r c m =
-    let inside : is_beyond cap (length after) (length links) ≡ false =
-    ap (λ n. is_beyond cap n (length links)) (sym r) ∙ ap (λ n. is_beyond cap routers n) (sym c) ∙ sym within in
-    let made = joined keys after links first second cap a b (ends-inserted keys between after first second a b h)
-    (first-placed keys between after first second a b h) (second-placed keys between after first second a b h) inside in
-    subst (λ (d : Draft). with_link d first second (Some cap) ≡ Some (record { names = after; links = more })) view
-    (rw m made)
-
--- or it is beyond the limits
-pub with_link-beyond : (draft : Draft) (keys between after : List (List ℕ)) (links : List Link)
-    (first second : List ℕ) (cap a b routers count : ℕ)
-    → (let made : Draft = record { names = keys; links = links } in made) ≡ draft
-    → Inserts keys between after first second a b
-    → true ≡ is_beyond cap routers count → routers ≡ length after → count ≡ length links
-    → with_link draft first second (Some cap) ≡ None
-with_link-beyond draft keys between after links first second cap a b routers count view h past r c =
-    let ends = ends-inserted keys between after first second a b h in
-    let outside : is_beyond cap (length (with_ends keys first second)) (length links) ≡ true =
-    ap (λ (xs : List (List ℕ)). is_beyond cap (length xs) (length links)) (sym ends)
-    ∙ ap (λ n. is_beyond cap n (length links)) (sym r) ∙ ap (λ n. is_beyond cap routers n) (sym c) ∙ sym past in
-    subst (λ (d : Draft). with_link d first second (Some cap) ≡ None) view (rw outside refl)
+-- Two names and a number are the link that they say.
+pub link_line-with_link : (draft : Draft) (words : List (List ℕ)) (first second number : List ℕ) (cap : ℕ)
+    → words ≡ first ∷ second ∷ number ∷ [] → is_name first ≡ true → is_name second ≡ true
+    → Some cap ≡ option_map (min (2 ^ 64 - 1)) (number_in number)
+    → link_line draft words ≡ with_link draft first second cap
+link_line-with_link draft words first second number cap e is_first is_second value =
+    ap (λ all. link_line draft all) e
+    ∙ rw (is_first, is_second) (with_capacity-capped draft first second (number_in number) cap value)

@@ -5,4 +5,10 @@ pub mod Limits
 pub mod Made
 pub mod Paddings
 pub mod Places
+pub mod PutLines
+pub mod Rereading
+pub mod RereadingDrafts
+pub mod RereadingLines
+pub mod RereadingNames
 pub mod SameNames
+pub mod WritingExamples

@@ -1,47 +1,39 @@
 -- Sheets made of the names and links of a text.
-use Rattle.std.proofs.Common.{◌≡◌, ℕ, ◌<◌, List, [], ◌∷◌, Bool, false, ◌==◌, zero, suc, None}
-use Rattle.std.proofs.Common.{length, refl, arith}
+use Rattle.std.proofs.Common.{◌≡◌, ℕ, ◌<◌, List, Bool, true, false, IsTrue, zero, suc, None, length, refl, arith}
 use Rattle.std.specs.List.{IsDistinct}
 use Rattle.std.proofs.lemmas.Map.Made.{AllPairs-from_IsDistinct}
 use Rattle.cut_model.specs.declared.network.Link.{Link}
-use Rattle.cut_model.specs.Net.{Net, IsLink, IsInLimits, net_fault}
+use Rattle.cut_model.specs.Net.{Net, IsInLimits, net_fault}
 use Rattle.cut_model.proofs.Faults.{faultless_if_in_limits}
 use Rattle.network_text.specs.Sheets.{IsSheet}
 use Rattle.network_text.specs.Readings.{IsWithinLimits}
 use Rattle.network_text.specs.contracts.name.NamePartialEq.TheImpl.{eq-value}
 use Rattle.network_text.proofs.SameNames.{eq-Decides}
 
--- what isn't empty has an element
-pub some-link : (count : ℕ) (empty : Bool) → empty ≡ (count == 0) → empty ≡ false → 0 < count
-some-link zero empty e f = absurd (cc)
-some-link (suc count) empty e f = omega arith
+-- What isn't empty has an element.
+pub some-element : (count : ℕ) (empty : Bool) → (count ≡ 0 → IsTrue empty) → empty ≡ false → 0 < count
+some-element zero empty h filled = absurd (let yes : empty ≡ true = h refl in cc)
+some-element (suc count) empty h filled = omega arith
 
--- with a link there is a router
-some-router : (names : List (List ℕ)) (links : List Link) → IsWithinLimits names links
-    → 0 < length links → 0 < length names
-some-router names [] small some = absurd (omega arith)
-some-router names (link ∷ links) small some =
-    let joins : IsLink (length names) link = small.within 0 link (omega arith) in omega (arith, joins.a)
-
--- names and links within the limits are a network
-pub limits-whole : (names : List (List ℕ)) (links : List Link) → IsWithinLimits names links → 0 < length links
+-- Names and links within the limits are a network, if there is a name.
+pub limits-whole : (names : List (List ℕ)) (links : List Link) → IsWithinLimits names links → 0 < length names
     → IsInLimits (length names) links
 limits-whole names links small some = record {
-  some = some-router names links small some;
+  some = some;
   few_routers = small.few_names;
   few_links = small.few_links;
   within = small.within;
 }
 
--- no fault is found in them
+-- No fault is found in them,
 pub faultless : (names : List (List ℕ)) (links : List Link) (routers : ℕ)
-    → IsWithinLimits names links → 0 < length links → routers ≡ length names → net_fault routers links ≡ None
+    → IsWithinLimits names links → 0 < length names → routers ≡ length names → net_fault routers links ≡ None
 faultless names links routers small some same =
     rw same (faultless_if_in_limits (length names) links (limits-whole names links small some))
 
--- and with the names they are a sheet
+-- and with the names they are a sheet.
 pub IsSheet-whole : (names : List (List ℕ)) (links : List Link) (routers : ℕ) (net : Net)
-    → IsWithinLimits names links → 0 < length links → IsDistinct (eq-value).it names → routers ≡ length names
+    → IsWithinLimits names links → 0 < length names → IsDistinct (eq-value).it names → routers ≡ length names
     → net ≡ record { routers = routers; links = links } → IsSheet names net
 IsSheet-whole names links routers net small some distinct count same = rw (same, count) record {
   distinct = AllPairs-from_IsDistinct eq-Decides names distinct;

@@ -1,4 +1,6 @@
 pub mod Padding
 pub mod Sheets
+pub mod Faults
 pub mod Texts
 pub mod Readings
+pub mod Writing

@@ -1,11 +1,14 @@
 -- What a reader keeps.
-use Rattle.std.specs.Prelude.{ℕ, ◌≤◌, List, true, false, length, All, IsTrue, Some, None}
+use Rattle.std.specs.Prelude.{◌≡◌, ℕ, ◌+◌, ◌^◌, ◌≤◌, ◌⊎◌, List, Bool, length, All, IsTrue, Result, Ok, Err, Some, None}
+use Rattle.std.specs.declared.option.Option.{Option}
 use Rattle.text_forms.specs.Names.{is_name}
 use Rattle.cut_model.specs.Net.{IsLink}
 use Rattle.cut_model.specs.declared.network.Link.{Link}
-use Rattle.network_text.specs.declared.reader.Status.{Status}
-use Rattle.network_text.specs.declared.reader.Status.TheVariants.{Gathering, Faulty, OutOfMemory}
-use Rattle.network_text.specs.Texts.{Draft, Reading}
+use Rattle.network_text.specs.Texts.{Draft, Progress, after_line, verdict_at}
+use Rattle.network_text.specs.Sheets.{SheetView}
+use Rattle.network_text.specs.declared.fault.TextFault.{TextFault}
+use Rattle.network_text.specs.declared.fault.TextKind.{TextKind}
+use Rattle.network_text.specs.declared.fault.TextKind.TheVariants.{Memory}
 
 -- Names and links are within the limits of a network, except that there may be none.
 pub record IsWithinLimits (names : List (List ℕ)) (links : List Link) : Type 0 where
@@ -14,14 +17,51 @@ pub record IsWithinLimits (names : List (List ℕ)) (links : List Link) : Type 0
   pub few_links : length links ≤ 8192
   pub within : All (IsLink (length names)) links
 
--- What was gathered counts until a line was faulty or memory was wanted.
-abbrev pub reading_at : Status → Draft → Reading
-reading_at Gathering draft = record { draft = Some draft; lost = false }
-reading_at Faulty draft = record { draft = None; lost = false }
-reading_at OutOfMemory draft = record { draft = None; lost = true }
+-- What a reader has made of the lines so far. Where memory was wanted for one, it is noted like a fault.
+pub record Reading : Type 0 where
+  pub progress : Progress
+  pub ended : Bool
+
+-- Memory was wanted.
+abbrev pub IsWant : {A : Type 0} → Result A TextFault → Type 0
+IsWant (Ok value) = ⊥
+IsWant (Err fault) = fault.kind ≡ Memory
+
+-- Nothing is noted yet.
+abbrev pub IsClean : {A : Type 0} → Result A TextFault → Type 0
+IsClean (Ok value) = Unit {0}
+IsClean (Err fault) = ⊥
+
+-- Memory was wanted for the next line, when nothing had been noted.
+pub record IsLost (old new : Progress) : Type 0 where
+  pub clean : IsClean old.draft
+  pub want : IsWant new.draft
+  pub lines : new.lines ≡ old.lines + 1
+
+-- A line was taken as the text says, or memory was wanted for it.
+abbrev pub TakesLine : Progress → List ℕ → Progress → Type 0
+TakesLine old line new = (new ≡ after_line old line) ⊎ IsLost old new
+
+-- A reader that is closed gives the verdict, or says that memory was wanted.
+abbrev pub Closes : Reading → Result SheetView TextFault → Type 0
+Closes reading result = (result ≡ verdict_at reading.ended reading.progress) ⊎ IsWant result
+
+-- What a line says was added to a draft, or told as its fault, or memory was wanted.
+abbrev pub Adds : Result Draft TextKind → Result (Unit {0}) TextKind → Draft → Type 0
+Adds said (Ok done) new = said ≡ Ok new
+Adds said (Err kind) new = (said ≡ Err kind) ⊎ (kind ≡ Memory)
+
+-- What counts of what was gathered: all of it, until something was noted.
+abbrev pub draft_at : Option TextFault → Draft → Result Draft TextFault
+draft_at None draft = Ok draft
+draft_at (Some fault) draft = Err fault
 
 -- What counts is within the limits.
-abbrev pub KeepsLimits : Status → Draft → Type 0
-KeepsLimits Gathering draft = IsWithinLimits draft.names draft.links
-KeepsLimits Faulty draft = Unit {0}
-KeepsLimits OutOfMemory draft = Unit {0}
+abbrev pub KeepsLimits : Option TextFault → Draft → Type 0
+KeepsLimits None draft = IsWithinLimits draft.names draft.links
+KeepsLimits (Some fault) draft = Unit {0}
+
+-- A reader was given at most 2^31 lines, and what counts is within the limits.
+pub record KeepsBounds (lines : ℕ) (noted : Option TextFault) (draft : Draft) : Type 0 where
+  pub few_lines : lines ≤ 2 ^ 31
+  pub limits : KeepsLimits noted draft

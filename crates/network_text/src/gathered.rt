@@ -1,27 +1,22 @@
 //! The names and links of a text so far.
 
-ghost use Rattle.std.specs.Prelude.{◌≡◌, [], Some, None, OnOk, IfOk, MatchOption};
-ghost use Rattle.std.specs.Arc.{arc_value};
-ghost use Rattle.text_forms.specs.Words.{line_words};
-ghost use Rattle.network_text.specs.Texts.{
-  Draft,
-  draft_after,
-  is_beyond as beyond,
-  sheet_of,
-  with_link,
-  with_words,
-};
-ghost use Rattle.network_text.specs.Readings.{IsWithinLimits};
+ghost use Rattle.std.specs.Prelude.{◌≡◌, ◌⊎◌, ◌<◌, [], true, length, IfErr, IfOk, OnOk};
+ghost use Rattle.text_forms.specs.Words.{words_of};
+ghost use Rattle.network_text.specs.Readings.{Adds, IsWant, IsWithinLimits};
+ghost use Rattle.network_text.specs.Texts.{link_line, place_of, router_line, whole_verdict, with_line};
+ghost use Rattle.network_text.specs.Texts.{with_link, with_name, with_names, with_words};
 
+use crate::fault::{TextFault, TextKind};
 use crate::name::Name;
-use crate::reader::TextFault;
 use crate::sheet::Sheet;
 use cut_model::{Link, Network};
 use indexmap::IndexSet;
-use std::alloc::{AllocFailed, Global};
+use std::alloc::Global;
 use std::marker::Model;
 use std::sync::Arc;
-use text_forms::{four_words, is_long, is_passed, parse_number};
+use text_forms::{
+    is_long, is_passed, one_word, parse_number, split_word, three_words, without_return,
+};
 
 /// The greatest number of routers in a network.
 const MOST_ROUTERS: usize = 1024;
@@ -32,57 +27,15 @@ const MOST_LINKS: usize = 8192;
 /// The greatest capacity of a link.
 const MOST_CAPACITY: u64 = 1_000_000_000_000;
 
-/// Why a line could not be added.
-#[derive(Clone, Copy)]
-pub(crate) enum Stop {
-    /// The line is faulty.
-    Fault,
-    /// Memory was wanted.
-    Memory,
-}
-
-impl<T: Drop> From<AllocFailed<T>> for Stop {
-    ghost use Rattle.std.specs.Prelude.{◌≡◌};
-    ghost use Rattle.network_text.specs.declared.gathered.Stop.TheVariants.{Memory};
-
-    ghost from_gives = { λ _ stop. stop ≡ Memory };
-
-    fn from(_refused: AllocFailed<T>) -> Stop {
-        Stop::Memory
-    }
-}
-
-/// What a link line says: the names of the two routers, the first first, and the capacity.
-#[derive(Drop)]
-struct LinkLine {
-    first: Name,
-    second: Name,
-    cap: u64,
-}
-
-/// What the words of a link line say; none for any other line. A capacity past the type is given as
-/// its largest value.
-fn parse_link(line: &[u8]) -> Option<LinkLine>
-    ensures { MatchOption result ((draft : Draft) → with_words draft (line_words line.now) ≡ None)
-        (λ link. (draft : Draft) → with_words draft (line_words line.now)
-        ≡ with_link draft link.first link.second (Some link.cap)) }
+/// The number of a router among the names, which a new name joins at their end.
+fn number_in(names: &mut IndexSet<Name>, name: Name) -> Result<usize, TextKind>
+    ensures named { OnOk result (names.new.keys ≡ with_name names.old.keys name) }
+    ensures number { IfOk result (λ number. number ≡ place_of names.new.keys name) }
+    ensures below { IfOk result (λ number. number < length names.new.keys) }
+    ensures memory { IfErr result (λ kind. kind ≡ TextKind.Memory) }
 {
-    let (word, first, second, number) = four_words(line)?;
-    if word != b"link".as_slice() {
-        return None;
-    }
-    let first = Name::from_bytes(first)?;
-    let second = Name::from_bytes(second)?;
-    let cap = parse_number(number)?;
-    Some(LinkLine { first, second, cap })
-}
-
-/// Whether a link of this capacity, among this many routers and after this many links, is more than
-/// a network may have.
-fn is_beyond(cap: u64, routers: usize, links: usize) -> bool
-    ensures { result ≡ beyond cap routers links }
-{
-    cap > MOST_CAPACITY || routers > MOST_ROUTERS || links >= MOST_LINKS
+    let (number, _) = names.insert_full(name)?;
+    Ok(number)
 }
 
 /// The names and links of a text so far, in order of appearance. Contracts see a `Draft`.
@@ -112,57 +65,114 @@ impl Gathered {
     }
 
     /// Takes in a line. After an error what was gathered means nothing.
-    pub(crate) fn add_line(&mut self, line: &[u8]) -> Result<(), Stop>
-        ensures added { OnOk result (draft_after (Some self.old) line.now ≡ Some self.new) }
-        ensures fault { result ≡ Err Stop.Fault → draft_after (Some self.old) line.now ≡ None }
+    pub(crate) fn add_line(&mut self, line: &[u8]) -> Result<(), TextKind>
+        ensures adds { Adds (with_line self.old line.now) result self.new }
+        ensures limits { OnOk result (IsWithinLimits self.old.names self.old.links
+            → IsWithinLimits self.new.names self.new.links) }
     {
         if is_passed(line) {
             return Ok(());
         }
         if is_long(line) {
-            return Err(Stop::Fault);
+            return Err(TextKind::LineTooLong);
         }
-        match parse_link(line) {
-            Some(link) => self.add_link(link),
-            None => Err(Stop::Fault),
+        self.add_words(without_return(line))
+    }
+
+    /// Takes in the words of a line that isn't passed over.
+    fn add_words(&mut self, text: &[u8]) -> Result<(), TextKind>
+        ensures adds { Adds (with_words self.old (words_of text.now)) result self.new }
+    {
+        let Some((word, behind)) = split_word(text) else {
+            return Ok(());
+        };
+        if word == b"router".as_slice() {
+            self.add_router_line(behind)
+        } else if word == b"link".as_slice() {
+            self.add_link_line(behind)
+        } else if word == b"END".as_slice() {
+            Err(TextKind::WrongCount)
+        } else {
+            Err(TextKind::UnknownWord)
         }
     }
 
-    /// Names the routers of a link, the first first, and joins them.
-    fn add_link(&mut self, link: LinkLine) -> Result<(), Stop>
-        ensures added { OnOk result (with_link self.old link.first link.second (Some link.cap) ≡ Some self.new) }
-        ensures fault { result ≡ Err Stop.Fault
-            → with_link self.old link.first link.second (Some link.cap) ≡ None }
+    /// Takes in what stands behind the word `router`.
+    fn add_router_line(&mut self, text: &[u8]) -> Result<(), TextKind>
+        ensures adds { Adds (router_line self.old (words_of text.now)) result self.new }
     {
-        let (a, _) = self.names.insert_full(link.first)?;
-        let (b, _) = self.names.insert_full(link.second)?;
-        if is_beyond(link.cap, self.names.len(), self.links.len()) {
-            return Err(Stop::Fault);
+        let name = one_word(text).ok_or(TextKind::WrongCount)?;
+        let name = Name::from_bytes(name).ok_or(TextKind::BadName)?;
+        self.add_router(name)
+    }
+
+    /// Names a router.
+    fn add_router(&mut self, name: Name) -> Result<(), TextKind>
+        ensures adds { Adds (with_names (with_name self.old.names name) self.old.links) result self.new }
+    {
+        number_in(&mut self.names, name)?;
+        if self.names.len() > MOST_ROUTERS {
+            return Err(TextKind::TooManyRouters);
+        }
+        Ok(())
+    }
+
+    /// Takes in what stands behind the word `link`.
+    fn add_link_line(&mut self, text: &[u8]) -> Result<(), TextKind>
+        ensures adds { Adds (link_line self.old (words_of text.now)) result self.new }
+    {
+        let (first, second, number) = three_words(text).ok_or(TextKind::WrongCount)?;
+        let first = Name::from_bytes(first).ok_or(TextKind::BadName)?;
+        let second = Name::from_bytes(second).ok_or(TextKind::BadName)?;
+        let cap = parse_number(number).ok_or(TextKind::BadNumber)?;
+        self.add_link(first, second, cap)
+    }
+
+    /// Names the routers of a link, the first first, and joins them.
+    fn add_link(&mut self, first: Name, second: Name, cap: u64) -> Result<(), TextKind>
+        ensures adds { Adds (with_link self.old first second cap) result self.new }
+    {
+        let a = number_in(&mut self.names, first)?;
+        let b = number_in(&mut self.names, second)?;
+        if cap > MOST_CAPACITY {
+            return Err(TextKind::CapTooLarge);
+        }
+        if self.names.len() > MOST_ROUTERS {
+            return Err(TextKind::TooManyRouters);
+        }
+        if self.links.len() >= MOST_LINKS {
+            return Err(TextKind::TooManyLinks);
         }
         self.links.push(Link {
             a: a as u32,
             b: b as u32,
-            cap: link.cap,
+            cap,
         })?;
         Ok(())
     }
 
-    /// The sheet of what was gathered; `NotPlain` where there is no link.
-    pub(crate) fn into_sheet(self, alloc: Global) -> Result<Sheet, TextFault>
+    /// The sheet of what was gathered, where its END is the line of this number.
+    pub(crate) fn into_sheet(self, alloc: Global, end: u32) -> Result<Sheet, TextFault>
         requires { IsWithinLimits self.names self.links }
-        ensures sheet { IfOk result (λ sheet. sheet_of (Some self) ≡ Some sheet) }
-        ensures not_plain { result ≡ Err TextFault.NotPlain → sheet_of (Some self) ≡ None }
-        ensures no_link { sheet_of (Some self) ≡ None → result ≡ Err TextFault.NotPlain }
+        ensures { (result ≡ whole_verdict end true self) ⊎ IsWant result }
     {
         let Gathered { names, links } = self;
-        if links.is_empty() {
-            return Err(TextFault::NotPlain);
+        if names.is_empty() {
+            return Err(TextFault {
+                kind: TextKind::NoTerminal,
+                line: end,
+            });
         }
         let routers = names.len() as u32;
         let Ok(net) = Network::make(routers, links) else {
             unreachable!()
         };
-        let net = Arc::new(alloc, net)?;
-        Ok(Sheet::make(net, names))
+        match Arc::new(alloc, net) {
+            Ok(net) => Ok(Sheet::make(net, names)),
+            Err(_) => Err(TextFault {
+                kind: TextKind::Memory,
+                line: end,
+            }),
+        }
     }
 }

@@ -1,16 +1,21 @@
 //! Network texts: lines that name routers and join them by links.
 //!
 //! A `Reader` takes the lines one by one, keeps none of them, and gives the `Sheet` that the whole
-//! text stands for: the network and the names of its routers, numbered in order of appearance.
+//! text stands for, or what is wrong with the text and in which line: the network and the names of its
+//! routers, numbered in order of appearance. `write_sheet` writes a text that has the same sheet.
 #![tactic(auto)]
 
+mod fault;
 mod gathered;
 mod name;
 mod reader;
 mod sheet;
 #[cfg(test)]
 mod tests;
+mod write;
 
+pub use fault::{TextFault, TextKind};
 pub use name::Name;
-pub use reader::{Fed, Reader, TextFault};
+pub use reader::{Fed, Reader};
 pub use sheet::Sheet;
+pub use write::write_sheet;

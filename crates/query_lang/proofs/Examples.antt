@@ -1,11 +1,15 @@
 -- The definitions on small examples, by computing.
-use Rattle.std.proofs.Common.{◌≡◌, List, ℕ, [], ◌∷◌, true, false, Some, None, refl, codes}
+use Rattle.std.proofs.Common.{◌≡◌, List, ℕ, [], ◌∷◌, ◌++◌, true, false, Some, None, Result, Ok, Err, refl, codes, replicate}
 use Rattle.std.specs.Fmt.{digits}
 use Rattle.cut_model.specs.Net.{Net}
 use Rattle.network_text.specs.Sheets.{SheetView}
-use Rattle.query_lang.specs.declared.request.Request.TheVariants.{Nothing, Load, Cut, Bye, Refused}
-use Rattle.query_lang.specs.Replies.{bye_text, cut_text, loaded_text, refused_text}
-use Rattle.query_lang.specs.Requests.{request_of}
+use Rattle.network_text.specs.Writing.{sheet_text}
+use Rattle.query_lang.specs.declared.request.Request.{Request}
+use Rattle.query_lang.specs.declared.request.Request.TheVariants.{Nothing, Load, Cut, Bye}
+use Rattle.query_lang.specs.declared.request.Request.TheVariants as asks
+use Rattle.query_lang.specs.declared.request.RequestFault.{RequestFault}
+use Rattle.query_lang.specs.Replies.{bye_text, cut_text, head_text, loaded_text, net_text, refused_text, reply_text}
+use Rattle.query_lang.specs.Requests.{fault_number, request_of}
 
 -- Two routers, a and b, with a link of 5.
 abbrev pair : Net
@@ -17,6 +21,101 @@ names = codes "a" ∷ codes "b" ∷ []
 abbrev sheet : SheetView
 sheet = record { names = names; net = pair }
 
+-- The number by which a request is refused, and 0 where it isn't.
+abbrev number_told : Result Request RequestFault → ℕ
+number_told (Ok request) = 0
+number_told (Err fault) = fault_number fault
+
+-- The same for a line before any network, and for one with this sheet.
+abbrev before : List ℕ → ℕ
+before line = number_told (request_of None line)
+
+abbrev later : List ℕ → ℕ
+later line = number_told (request_of (Some sheet) line)
+
+-- What is asked for.
+remark : request_of (Some sheet) (codes "# note") ≡ Ok Nothing
+remark = refl
+
+empty_line : request_of None (codes " \t\r") ≡ Ok Nothing
+empty_line = refl
+
+load : request_of None (codes " LOAD\r") ≡ Ok Load
+load = refl
+
+cut : request_of (Some sheet) (codes "CUT b\ta ") ≡ Ok (Cut 1 0)
+cut = refl
+
+net : request_of (Some sheet) (codes "NET") ≡ Ok asks.Net
+net = refl
+
+bye : request_of None (codes "BYE") ≡ Ok Bye
+bye = refl
+
+-- A line of 513 bytes is too long, whatever it begins with, and one of 512 is not.
+long_line : before (replicate 513 120) ≡ 2
+long_line = refl
+
+long_remark : before (codes "#" ++ replicate 512 120) ≡ 2
+long_remark = refl
+
+long_bye : before (codes "BYE" ++ replicate 510 32) ≡ 2
+long_bye = refl
+
+longest_line : before (replicate 512 120) ≡ 1
+longest_line = refl
+
+longest_bye : request_of None (codes "BYE" ++ replicate 509 32) ≡ Ok Bye
+longest_bye = refl
+
+-- A word in small letters is unknown, and so is one with a further letter; the words behind it aren't looked at.
+small_letters : before (codes "cut a b") ≡ 1
+small_letters = refl
+
+further_letter : later (codes "NETS a b") ≡ 1
+further_letter = refl
+
+-- The number of words counts before the network does,
+one_name : before (codes "CUT a") ≡ 3
+one_name = refl
+
+three_names : later (codes "CUT z a b") ≡ 3
+three_names = refl
+
+net_with_further_word : before (codes "NET x") ≡ 3
+net_with_further_word = refl
+
+-- also for requests that need none.
+load_with_further_word : before (codes "LOAD x") ≡ 3
+load_with_further_word = refl
+
+bye_with_further_word : later (codes "BYE x") ≡ 3
+bye_with_further_word = refl
+
+-- Without a network no name is looked up.
+cut_before : before (codes "CUT a b") ≡ 6
+cut_before = refl
+
+same_name_before : before (codes "CUT a a") ≡ 6
+same_name_before = refl
+
+net_before : before (codes "NET") ≡ 6
+net_before = refl
+
+-- An unknown router counts before two equal names, whichever of the two it is.
+unknown_second : later (codes "CUT a z") ≡ 4
+unknown_second = refl
+
+unknown_first : later (codes "CUT z a") ≡ 4
+unknown_first = refl
+
+unknown_twice : later (codes "CUT z z") ≡ 4
+unknown_twice = refl
+
+same_router : later (codes "CUT a a") ≡ 5
+same_router = refl
+
+-- The replies.
 loaded : loaded_text 1 pair ≡ codes "@1 LOADED routers 2 links 1\n"
 unfolding digits loaded_text
 loaded = refl
@@ -29,41 +128,27 @@ both_named : cut_text 12 340 names (true ∷ true ∷ []) ≡ codes "@12 CUT 340
 unfolding digits cut_text
 both_named = refl
 
-refusal : refused_text 0 9 ≡ codes "@0 NO 9\n"
-unfolding digits refused_text
-refusal = refl
+-- Two lines for the routers, one for the link, and END.
+network : net_text 3 sheet ≡ codes "@3 NET 4\nrouter a\nrouter b\nlink a b 5\nEND\n"
+unfolding digits net_text sheet_text
+network = refl
+
+asked_network : reply_text 3 sheet asks.Net ≡ net_text 3 sheet
+asked_network = refl
+
+head : head_text 10 (codes "NET") 4 ≡ codes "@10 NET 4\n"
+unfolding digits
+head = refl
 
 farewell : bye_text 1 ≡ codes "@1 BYE\n"
 unfolding digits bye_text
 farewell = refl
 
-remark : request_of (Some sheet) (codes "# note") ≡ Nothing
-remark = refl
+refusal : refused_text 0 6 None ≡ codes "@0 NO 6\n"
+unfolding digits refused_text
+refusal = refl
 
-load : request_of None (codes " LOAD\r") ≡ Load
-load = refl
-
-bye : request_of None (codes "BYE") ≡ Bye
-bye = refl
-
-cut : request_of (Some sheet) (codes "CUT b a") ≡ Cut 1 0
-cut = refl
-
--- Without a sheet there is no router.
-no_sheet : request_of None (codes "CUT a b") ≡ Refused
-no_sheet = refl
-
-unknown_router : request_of (Some sheet) (codes "CUT a c") ≡ Refused
-unknown_router = refl
-
-same_router : request_of (Some sheet) (codes "CUT a a") ≡ Refused
-same_router = refl
-
-further_word : request_of (Some sheet) (codes "CUT a b c") ≡ Refused
-further_word = refl
-
-small_letters : request_of (Some sheet) (codes "cut a b") ≡ Refused
-small_letters = refl
-
-load_with_further_word : request_of (Some sheet) (codes "LOAD a") ≡ Refused
-load_with_further_word = refl
+-- That of a network text tells the line.
+refused_line : refused_text 2 12 (Some 3) ≡ codes "@2 NO 12 line 3\n"
+unfolding digits refused_text
+refused_line = refl

@@ -5,8 +5,8 @@ use Rattle.std.proofs.lemmas.Bool.{le-leb}
 use Rattle.wires.specs.Bytes.{PutAppends}
 
 -- An empty room surely takes a text that isn't too long.
-pub takes_text : (before text : List ℕ) → before ≡ [] → length text ≤ 34000
-    → IsTrue (nat_le (length before + (length text + 0)) 34000)
+pub takes_text : (before text : List ℕ) → before ≡ [] → length text ≤ 740000
+    → IsTrue (nat_le (length before + (length text + 0)) 740000)
 takes_text before text empty short = le-leb _ _ (omega (arith, ap length empty))
 
 -- What was put into an empty room is all that it has.

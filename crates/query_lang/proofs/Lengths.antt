@@ -1,13 +1,22 @@
 -- How long replies are at most.
 use Rattle.std.proofs.Common.{ℕ, ◌+◌, ◌*◌, ◌/◌, ◌%◌, ◌≤◌, List, [], ◌∷◌, ◌++◌, All, Bool, true, false, IsTrue}
 use Rattle.std.proofs.Common.{nat_eq, if◌then◌else◌, zero, suc, length, arith, codes, decimal, length-append}
+use Rattle.std.proofs.Common.{None, Some, ap, inl, inr, map, slice_index_or}
+use Rattle.std.proofs.lemmas.Bool.{cases_lt}
 use Rattle.std.proofs.lemmas.Bool.Decides.{nat_tests}
+use Rattle.std.proofs.lemmas.Fmt.{length-decimal-le}
+use Rattle.std.proofs.lemmas.List.{get_or_past}
 use Rattle.std.proofs.lemmas.List.Elements.{All-head, All-tail}
 use Rattle.std.specs.Fmt.{digit_glyph, digits, digits_onto}
+use Rattle.std.specs.List.{concat}
+use Rattle.std.specs.declared.option.Option.{Option}
 use Rattle.cut_model.specs.Net.{Net}
-use Rattle.network_text.specs.Sheets.{IsSheet}
+use Rattle.cut_model.specs.declared.network.Link.{Link}
+use Rattle.network_text.specs.Sheets.{IsSheet, SheetView}
+use Rattle.network_text.specs.Writing.{link_text, name_at, router_text, sheet_text}
 use Rattle.text_forms.specs.Names.{is_name}
-use Rattle.query_lang.specs.Replies.{bye_text, cut_head, cut_text, loaded_text, name_piece, refused_text, side_names}
+use Rattle.query_lang.specs.Replies.{bye_text, cut_head, cut_text, line_piece, loaded_text, name_piece, net_text}
+use Rattle.query_lang.specs.Replies.{refused_text, sheet_lines, side_names}
 
 -- Digits put before others are at most as many as are asked for.
 length-digits_onto : (k base : ℕ) (upper : Bool) (n : ℕ) (behind : List ℕ)
@@ -25,16 +34,25 @@ digits_64 : (n : ℕ) → length (decimal n) ≤ 64
 unfolding digits
 digits_64 n = length-digits_onto 64 10 false n []
 
-pub length-bye_text : (version : ℕ) → length (bye_text version) ≤ 34000
+-- The reply to the end of a session fits.
+pub length-bye_text : (version : ℕ) → length (bye_text version) ≤ 740000
 unfolding bye_text
 length-bye_text version = simp length-append (omega (arith, digits_64 version))
 
-pub length-refused_text : (version number : ℕ) → length (refused_text version number) ≤ 34000
+-- The line of a refusal, with the word before it.
+length-line_piece : (line : Option ℕ) → length (line_piece line) ≤ 70
+length-line_piece None = omega arith
+length-line_piece (Some line) = simp length-append (omega (arith, digits_64 line))
+
+-- A refusal fits.
+pub length-refused_text : (version number : ℕ) (line : Option ℕ) → length (refused_text version number line) ≤ 740000
 unfolding refused_text
-length-refused_text version number =
+length-refused_text version number line =
+    let piece = length-line_piece line in
     simp length-append (omega (arith, digits_64 version, digits_64 number))
 
-pub length-loaded_text : (version : ℕ) (net : Net) → length (loaded_text version net) ≤ 34000
+-- The reply to an accepted network fits.
+pub length-loaded_text : (version : ℕ) (net : Net) → length (loaded_text version net) ≤ 740000
 unfolding loaded_text
 length-loaded_text version net =
     simp length-append (omega (arith, digits_64 version, digits_64 net.routers, digits_64 (length net.links)))
@@ -44,6 +62,7 @@ length-name_piece : (name : List ℕ) (inside : Bool) → length name ≤ 32 →
 length-name_piece name true short = simp length-append (omega arith)
 length-name_piece name false short = omega arith
 
+-- The first words of a cut.
 length-cut_head : (version value : ℕ) → length (cut_head version value) ≤ 139
 length-cut_head version value = simp length-append (omega (arith, digits_64 version, digits_64 value))
 
@@ -62,8 +81,9 @@ length-side_names (name ∷ names) (inside ∷ side) named =
     let behind = length-side_names names side (All-tail (λ text. IsTrue (is_name text)) name names named) in
     omega (arith, length-append (name_piece name inside) (side_names names side), here, behind)
 
+-- A cut fits: 33 bytes for each of 1,024 names, and some more.
 pub length-cut_text : (version value : ℕ) (names : List (List ℕ)) (net : Net) (side : List Bool)
-    → IsSheet names net → length (cut_text version value names side) ≤ 34000
+    → IsSheet names net → length (cut_text version value names side) ≤ 740000
 unfolding cut_text
 length-cut_text version value names net side sheet =
     let head = length-cut_head version value in
@@ -72,3 +92,67 @@ length-cut_text version value names net side sheet =
     let all = side_names names side ++ codes "\n" in
     let length_all = length-append (side_names names side) (codes "\n") in
     omega (arith, head, tail, routers, sheet.numbered, length-append (cut_head version value) all, length_all)
+
+-- Texts of at most so many bytes each.
+length-texts : {X : Type 0} (text_of : X → List ℕ) (most : ℕ) (xs : List X) → All (λ x. length (text_of x) ≤ most) xs
+    → length (concat (map text_of xs)) ≤ most * length xs
+length-texts text_of most [] short = omega arith
+length-texts text_of most (x ∷ xs) short =
+    let first = All-head (λ y. length (text_of y) ≤ most) x xs short in
+    let behind = length-texts text_of most xs (All-tail (λ y. length (text_of y) ≤ most) x xs short) in
+    omega (arith, first, behind, length-append (text_of x) (concat (map text_of xs)))
+
+-- The name of a router; past the last one there is no byte.
+length-name_at : (names : List (List ℕ)) (router : ℕ) → All (λ name. IsTrue (is_name name)) names
+    → length (name_at names router) ≤ 32
+length-name_at names router named =
+    elim (cases_lt router (length names)) [
+      | inl within ↦ name_short (name_at names router) (named router [] within)
+      | inr past ↦ omega (arith, ap length (get_or_past names router [] past))
+    ]
+
+-- The line of a router, by its name.
+length-router_text : (name : List ℕ) → IsTrue (is_name name) → length (router_text name) ≤ 40
+length-router_text name named = simp length-append (omega (arith, name_short name named))
+
+-- The line of a link: its capacity has at most 13 digits.
+length-link_text : (names : List (List ℕ)) (link : Link) → All (λ name. IsTrue (is_name name)) names
+    → link.cap ≤ 1000000000000 → length (link_text names link) ≤ 85
+length-link_text names link named small =
+    let first = length-name_at names link.a named in
+    let second = length-name_at names link.b named in
+    let cap = length-decimal-le 13 link.cap (omega arith) (omega arith) (omega arith) in
+    simp length-append (omega (arith, first, second, cap))
+
+-- The lines of the largest network: 1,024 routers and 8,192 links.
+length-sheet_text : (sheet : SheetView) → IsSheet sheet.names sheet.net → length (sheet_text sheet) ≤ 737284
+unfolding sheet_text
+length-sheet_text sheet is =
+    let names = sheet.names in
+    let links = sheet.net.links in
+    let router_lines = concat (map router_text names) in
+    let link_lines = concat (map (link_text names) links) in
+    let few : sheet.net.routers ≤ 1024 = is.limits.few_routers in
+    let first = length-texts router_text 40 names
+    (λ k d within. length-router_text (slice_index_or names k d) (is.named k d within)) in
+    let second = length-texts (link_text names) 85 links
+    (λ k d within. length-link_text names (slice_index_or links k d) is.named (is.limits.within k d within).cap) in
+    let behind = length-append link_lines (codes "END\n") in
+    omega (
+      arith,
+      is.numbered,
+      few,
+      is.limits.few_links,
+      first,
+      second,
+      length-append router_lines (link_lines ++ codes "END\n"),
+      behind,
+    )
+
+-- The network fits: its lines, and the first line.
+pub length-net_text : (version : ℕ) (sheet : SheetView) → IsSheet sheet.names sheet.net
+    → length (net_text version sheet) ≤ 740000
+unfolding net_text
+length-net_text version sheet is =
+    let tail = length-sheet_text sheet is in
+    simp length-append (omega (arith, digits_64 version, digits_64 (sheet_lines sheet), tail))

@@ -2,3 +2,5 @@ pub mod Examples
 pub mod Fits
 pub mod Lengths
 pub mod NameTexts
+pub mod RequestKinds
+pub mod SameNames

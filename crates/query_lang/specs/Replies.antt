@@ -1,7 +1,12 @@
--- The texts of replies. Each is one line, which begins with the version of the network that it speaks of.
-use Rattle.std.specs.Prelude.{ℕ, List, [], ◌∷◌, ◌++◌, Bool, length, codes, decimal, if◌then◌else◌}
+-- The texts of replies. Each begins with the version of the network that it speaks of.
+use Rattle.std.specs.Prelude.{ℕ, ◌+◌, List, [], ◌∷◌, ◌++◌, Bool, length, codes, decimal, if◌then◌else◌, None, Some}
 use Rattle.std.specs.List.{concat}
+use Rattle.std.specs.declared.option.Option.{Option}
 use Rattle.cut_model.specs.Net.{Net}
+use Rattle.network_text.specs.Sheets.{SheetView}
+use Rattle.network_text.specs.Writing.{sheet_text}
+use Rattle.query_lang.specs.declared.request.Request.{Request}
+use Rattle.query_lang.specs.declared.request.Request.TheVariants as asks
 
 -- A network was accepted: its numbers of routers and links.
 unfoldable pub loaded_text : ℕ → Net → List ℕ
@@ -12,10 +17,36 @@ loaded_text version net = concat (codes "@" ∷ decimal version ∷ codes " LOAD
 unfoldable pub bye_text : ℕ → List ℕ
 bye_text version = concat (codes "@" ∷ decimal version ∷ codes " BYE\n" ∷ [])
 
--- A request was refused, for the reason that the number stands for.
-unfoldable pub refused_text : ℕ → ℕ → List ℕ
-refused_text version number =
-    concat (codes "@" ∷ decimal version ∷ codes " NO " ∷ decimal number ∷ codes "\n" ∷ [])
+-- The first words of a refusal: the number of its reason.
+abbrev pub refusal_head : ℕ → ℕ → List ℕ
+refusal_head version number = concat (codes "@" ∷ decimal version ∷ codes " NO " ∷ decimal number ∷ [])
+
+-- The line of which a refusal tells, and nothing where it tells of none.
+abbrev pub line_piece : Option ℕ → List ℕ
+line_piece None = []
+line_piece (Some line) = concat (codes " line " ∷ decimal line ∷ [])
+
+-- A request was refused, for the reason that the number stands for; that of a network text tells the faulty line.
+unfoldable pub refused_text : ℕ → ℕ → Option ℕ → List ℕ
+refused_text version number line = refusal_head version number ++ (line_piece line ++ codes "\n")
+
+-- The first line of a reply: its word, and how many lines follow.
+abbrev pub head_text : ℕ → List ℕ → ℕ → List ℕ
+head_text version word lines =
+    concat (codes "@" ∷ decimal version ∷ codes " " ∷ word ∷ codes " " ∷ decimal lines ∷ codes "\n" ∷ [])
+
+-- The lines of a sheet as a network text: one for each router and each link, and END.
+abbrev pub sheet_lines : SheetView → ℕ
+sheet_lines sheet = sheet.net.routers + length sheet.net.links + 1
+
+-- The network, as a text that loads it again.
+unfoldable pub net_text : ℕ → SheetView → List ℕ
+net_text version sheet = head_text version (codes "NET") (sheet_lines sheet) ++ sheet_text sheet
+
+-- The reply to a request that tells of the whole network.
+abbrev pub reply_text : ℕ → SheetView → Request → List ℕ
+reply_text version sheet asks.Net = net_text version sheet
+reply_text version sheet _ = []
 
 -- A space and the name of a router that is in the side.
 abbrev pub name_piece : List ℕ → Bool → List ℕ

@@ -1,49 +1,82 @@
 -- What a request line asks for.
-use Rattle.std.specs.Prelude.{◌≢◌, ℕ, ◌<◌, List, [], ◌∷◌, ◌==◌, if◌then◌else◌, codes, Some, None}
+use Rattle.std.specs.Prelude.{◌≢◌, ℕ, ◌<◌, List, [], ◌∷◌, ◌==◌, if◌then◌else◌, codes, Some, None, Result, Ok, Err}
 use Rattle.std.specs.Str.{bytes_eq}
 use Rattle.std.specs.declared.option.Option.{Option}
 use Rattle.text_forms.specs.Lines.{is_long}
-use Rattle.text_forms.specs.Words.{line_words, is_passed, is_load, is_bye}
+use Rattle.text_forms.specs.Words.{line_words, is_remark}
 use Rattle.network_text.specs.Sheets.{SheetView, number_of}
 use Rattle.query_lang.specs.declared.request.Request.{Request}
-use Rattle.query_lang.specs.declared.request.Request.TheVariants.{Nothing, Load, Cut, Bye, Refused}
+use Rattle.query_lang.specs.declared.request.Request.TheVariants.{Nothing, Load, Cut, Net, Bye}
+use Rattle.query_lang.specs.declared.request.RequestFault.{RequestFault}
+use Rattle.query_lang.specs.declared.request.RequestFault.TheVariants.{UnknownWord, LineTooLong, WrongCount}
+use Rattle.query_lang.specs.declared.request.RequestFault.TheVariants.{UnknownRouter, SameRouter, NoNetwork}
 
--- Two router numbers that are known and differ.
-abbrev pub pair_of : Option ℕ → Option ℕ → Option (ℕ × ℕ)
-pair_of None second = None
-pair_of (Some a) None = None
-pair_of (Some a) (Some b) = if a == b then None else Some (a, b)
+-- The number by which a client is told of a fault.
+abbrev pub fault_number : RequestFault → ℕ
+fault_number UnknownWord = 1
+fault_number LineTooLong = 2
+fault_number WrongCount = 3
+fault_number UnknownRouter = 4
+fault_number SameRouter = 5
+fault_number NoNetwork = 6
 
--- The routers that the words `CUT NAME NAME` name.
-abbrev pub ends_of : List (List ℕ) → List (List ℕ) → Option (ℕ × ℕ)
-ends_of names (word ∷ first ∷ second ∷ []) =
-    if bytes_eq word (codes "CUT") then pair_of (number_of names first) (number_of names second) else None
-ends_of names _ = None
+-- A request of one word, by the words behind it.
+abbrev pub alone : Request → List (List ℕ) → Result Request RequestFault
+alone request [] = Ok request
+alone request (word ∷ words) = Err WrongCount
 
--- The routers that a request line asks to part, where it is a CUT without a fault in this sheet.
-abbrev pub cut_of : Option SheetView → List ℕ → Option (ℕ × ℕ)
-cut_of None line = None
-cut_of (Some sheet) line = if is_long line then None else ends_of sheet.names (line_words line)
+-- A cut between two routers, where they are known and differ.
+abbrev pub cut_between : Option ℕ → Option ℕ → Result Request RequestFault
+cut_between None second = Err UnknownRouter
+cut_between (Some a) None = Err UnknownRouter
+cut_between (Some a) (Some b) = if a == b then Err SameRouter else Ok (Cut a b)
 
--- The request for a cut between two routers, and a refusal where there are no two.
-abbrev pub cut_request : Option (ℕ × ℕ) → Request
-cut_request None = Refused
-cut_request (Some pair) = Cut pair.0 pair.1
+-- The same by names in the network that there is.
+abbrev pub cut_named : Option SheetView → List ℕ → List ℕ → Result Request RequestFault
+cut_named None first second = Err NoNetwork
+cut_named (Some sheet) first second = cut_between (number_of sheet.names first) (number_of sheet.names second)
 
--- What a request line asks for.
-abbrev pub request_of : Option SheetView → List ℕ → Request
+-- The words behind `CUT` are two names.
+abbrev pub cut_of : Option SheetView → List (List ℕ) → Result Request RequestFault
+cut_of sheet (first ∷ second ∷ []) = cut_named sheet first second
+cut_of sheet _ = Err WrongCount
+
+-- No words are behind `NET`, and there is a network.
+abbrev pub net_of : Option SheetView → List (List ℕ) → Result Request RequestFault
+net_of sheet (word ∷ words) = Err WrongCount
+net_of None [] = Err NoNetwork
+net_of (Some sheet) [] = Ok Net
+
+-- The first word says what is asked for.
+abbrev pub words_ask : Option SheetView → List (List ℕ) → Result Request RequestFault
+words_ask sheet [] = Ok Nothing
+words_ask sheet (word ∷ words) =
+    if bytes_eq word (codes "LOAD") then alone Load words
+    else if bytes_eq word (codes "CUT") then cut_of sheet words
+    else if bytes_eq word (codes "NET") then net_of sheet words
+    else if bytes_eq word (codes "BYE") then alone Bye words
+    else Err UnknownWord
+
+-- What a line asks for with the network that there is, or the first fault: too long, an unknown word, another number
+-- of words, no network, an unknown router, the same router twice.
+abbrev pub request_of : Option SheetView → List ℕ → Result Request RequestFault
 request_of sheet line =
-    if is_passed line then Nothing
-    else if is_load line then Load
-    else if is_bye line then Bye
-    else cut_request (cut_of sheet line)
+    if is_long line then Err LineTooLong
+    else if is_remark (line_words line) then Ok Nothing
+    else words_ask sheet (line_words line)
 
 -- Two different routers of a sheet's network.
-abbrev pub AreEnds : SheetView → ℕ × ℕ → Type 0
-AreEnds sheet pair = (pair.0 ≢ pair.1) × (pair.0 < sheet.net.routers) × (pair.1 < sheet.net.routers)
+abbrev pub AreEnds : SheetView → ℕ → ℕ → Type 0
+AreEnds sheet a b = (a ≢ b) × (a < sheet.net.routers) × (b < sheet.net.routers)
 
--- A cut is between two different routers of the sheet's network.
-abbrev pub HasEnds : Option SheetView → Request → Type 0
-HasEnds None (Cut a b) = ⊥
-HasEnds (Some sheet) (Cut a b) = AreEnds sheet (a, b)
-HasEnds sheet _ = Unit {0}
+-- A cut is between two different routers of the network, and NET asks for one.
+abbrev pub IsOf : Option SheetView → Request → Type 0
+IsOf None (Cut a b) = ⊥
+IsOf None Net = ⊥
+IsOf (Some sheet) (Cut a b) = AreEnds sheet a b
+IsOf sheet _ = Unit {0}
+
+-- A request whose reply `write_reply` writes.
+abbrev pub IsReported : Request → Type 0
+IsReported Net = Unit {0}
+IsReported _ = ⊥

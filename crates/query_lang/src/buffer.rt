@@ -1,27 +1,28 @@
 //! The room in which a session gathers one reply before it is put.
 ghost use Rattle.std.specs.Prelude.{◌≡◌, ◌+◌, ◌≤◌, [], Some, IfOk, length, nat_le};
 ghost use Rattle.std.specs.Prelude.{vec_capacity, vec_len};
-ghost use Rattle.query_lang.specs.Replies.{bye_text, cut_text, loaded_text, refused_text};
+ghost use Rattle.query_lang.specs.Replies.{bye_text, cut_text, loaded_text, net_text, refused_text};
 ghost use Rattle.wires.specs.Beside.{nothing_beside};
 
-use crate::replies::{write_bye, write_cut, write_loaded, write_refusal};
+use crate::Request;
+use crate::replies::{write_bye, write_cut, write_loaded, write_refusal, write_reply};
 use cut_model::{Network, NoMemory, Side};
 use network_text::Sheet;
 use std::alloc::Global;
 use std::marker::Model;
 use wires::{Failed, Sink};
 
-/// The most bytes that are gathered. The longest reply is that to a cut of 1,024 routers with names
-/// of 32 bytes, which has at most 33,834.
-const ROOM: usize = 34_000;
+/// The most bytes that are gathered. The longest reply is that to NET for the largest network with
+/// names of 32 bytes, which has some 737,300.
+const ROOM: usize = 740_000;
 
 /// A sink in memory, which takes pieces up to its room and refuses a piece that doesn't fit whole.
 #[derive(Drop)]
 struct Gathered {
     bytes: Vec<u8>,
     faults: u64,
-    ghost reserved: { 34000 ≤ vec_capacity bytes },
-    ghost within: { vec_len bytes ≤ 34000 },
+    ghost reserved: { 740000 ≤ vec_capacity bytes },
+    ghost within: { vec_len bytes ≤ 740000 },
 }
 
 impl Gathered {
@@ -42,7 +43,7 @@ impl Sink for Gathered {
 
     ghost beside_sink = { λ _. nothing_beside };
 
-    ghost takes = { λ gathered n. nat_le (length gathered.bytes.items + n) 34000 };
+    ghost takes = { λ gathered n. nat_le (length gathered.bytes.items + n) 740000 };
 
     fn put(&mut self, bytes: &[u8]) -> Result<(), Failed> {
         if bytes.len() > ROOM - self.bytes.len() {
@@ -54,7 +55,7 @@ impl Sink for Gathered {
     }
 }
 
-/// Room for one reply of up to 34,000 bytes, more than any reply has. Its memory is taken when it
+/// Room for one reply of up to 740,000 bytes, more than any reply has. Its memory is taken when it
 /// is made, and a reply that is gathered in it takes none. Contracts see the bytes.
 #[derive(Drop)]
 pub struct ReplyBuffer {
@@ -68,7 +69,7 @@ impl Model for ReplyBuffer {
 
     ghost view = { λ buffer. buffer.gathered.bytes.items };
 
-    ghost invariant = { λ buffer. length buffer.gathered.bytes.items ≤ 34000 };
+    ghost invariant = { λ buffer. length buffer.gathered.bytes.items ≤ 740000 };
 }
 
 impl ReplyBuffer {
@@ -87,16 +88,9 @@ impl ReplyBuffer {
     /// The bytes of the reply that was gathered last.
     pub fn bytes(&self) -> &[u8]
         ensures value { result.now ≡ self.now }
-        ensures few { length result.now ≤ 34000 }
+        ensures few { length result.now ≤ 740000 }
     {
         self.gathered.bytes.as_slice()
-    }
-
-    /// Empties the buffer. Its room stays.
-    pub fn clear(&mut self)
-        ensures { self.new ≡ [] }
-    {
-        self.gathered.bytes.clear();
     }
 }
 
@@ -121,6 +115,16 @@ pub fn cut_reply(buffer: &mut ReplyBuffer, version: u32, value: u64, sheet: &She
     write_cut(version, value, sheet, side, gathered).unwrap();
 }
 
+/// Gathers the reply that tells the network, in place of what the buffer had.
+pub fn net_reply(buffer: &mut ReplyBuffer, version: u32, sheet: &Sheet)
+    ensures { buffer.new ≡ net_text version sheet.now }
+{
+    prove!(sheet.net().links().len() <= 8192);
+    let gathered = &mut buffer.gathered;
+    gathered.bytes.clear();
+    write_reply(version, sheet, &Request::Net, gathered).unwrap();
+}
+
 /// Gathers the reply to the line that ends a session, in place of what the buffer had.
 pub fn bye_reply(buffer: &mut ReplyBuffer, version: u32)
     ensures { buffer.new ≡ bye_text version }
@@ -130,11 +134,12 @@ pub fn bye_reply(buffer: &mut ReplyBuffer, version: u32)
     write_bye(version, gathered).unwrap();
 }
 
-/// Gathers the reply to a refused request, in place of what the buffer had.
-pub fn refusal_reply(buffer: &mut ReplyBuffer, version: u32, number: u32)
-    ensures { buffer.new ≡ refused_text version number }
+/// Gathers the reply to a refused request, in place of what the buffer had. That of a network text
+/// tells the line.
+pub fn refusal_reply(buffer: &mut ReplyBuffer, version: u32, number: u32, line: Option<u32>)
+    ensures { buffer.new ≡ refused_text version number line }
 {
     let gathered = &mut buffer.gathered;
     gathered.bytes.clear();
-    write_refusal(version, number, gathered).unwrap();
+    write_refusal(version, number, line, gathered).unwrap();
 }

@@ -1,13 +1,16 @@
-//! Replies, written to a sink. Each is one line with its line feed, and begins with the version of the
-//! network that it speaks of, 0 where there is none. No call takes memory.
+//! Replies, written to a sink. Each begins with the version of the network that it speaks of, 0 where
+//! there is none, and ends with a line feed. No call takes memory.
 ghost use Rattle.std.specs.Prelude.{◌≡◌, ℕ, ◌<◌, List, [], Bool, length, slice_index_or, false};
 ghost use Rattle.query_lang.specs.Replies.{bye_text, cut_head, cut_text, loaded_text, name_piece};
-ghost use Rattle.query_lang.specs.Replies.{refused_text, side_names};
+ghost use Rattle.query_lang.specs.Replies.{head_text, line_piece, net_text, refusal_head, refused_text};
+ghost use Rattle.query_lang.specs.Replies.{reply_text, sheet_lines, side_names};
+ghost use Rattle.query_lang.specs.Requests.{IsReported};
 ghost use Rattle.wires.specs.Puts.{Puts};
 
+use crate::Request;
 use cut_model::{Network, Side};
 use itoa::Buffer;
-use network_text::Sheet;
+use network_text::{Sheet, write_sheet};
 use wires::{Failed, Sink, put_pieces};
 
 /// Writes the reply to an accepted network: its numbers of routers and links.
@@ -49,14 +52,30 @@ pub fn write_bye<K: Sink>(version: u32, sink: &mut K) -> Result<(), Failed>
     put_pieces(&[b"@", digits.format(version).as_bytes(), b" BYE\n"], sink)
 }
 
-/// Writes the reply to a refused request, which tells why by a number.
+/// Writes the reply to a refused request, which tells why by a number, and for a network text in
+/// which line.
 ///
 /// # Errors
 /// [`Failed`] where a put failed. A front of the reply was written then.
 #[tactic(auto, unfolding(crate::specs::Replies::refused_text))]
-pub fn write_refusal<K: Sink>(version: u32, number: u32, sink: &mut K) -> Result<(), Failed>
+pub fn write_refusal<K: Sink>(
+    version: u32,
+    number: u32,
+    line: Option<u32>,
+    sink: &mut K,
+) -> Result<(), Failed>
     ensures puts { Puts K.written K.write_faults K.beside_sink K.takes sink.old sink.new result
-        (refused_text version number) }
+        (refused_text version number line) }
+{
+    write_refusal_head(version, number, sink)?;
+    write_line_number(line, sink)?;
+    put_pieces(&[b"\n"], sink)
+}
+
+/// Writes the first words of a refusal, up to the number of its reason.
+fn write_refusal_head<K: Sink>(version: u32, number: u32, sink: &mut K) -> Result<(), Failed>
+    ensures puts { Puts K.written K.write_faults K.beside_sink K.takes sink.old sink.new result
+        (refusal_head version number) }
 {
     let mut version_digits = Buffer::new();
     let mut number_digits = Buffer::new();
@@ -66,13 +85,89 @@ pub fn write_refusal<K: Sink>(version: u32, number: u32, sink: &mut K) -> Result
             version_digits.format(version).as_bytes(),
             b" NO ",
             number_digits.format(number).as_bytes(),
+        ],
+        sink,
+    )
+}
+
+/// Writes which line a refusal tells of, where it tells of one.
+fn write_line_number<K: Sink>(line: Option<u32>, sink: &mut K) -> Result<(), Failed>
+    ensures puts { Puts K.written K.write_faults K.beside_sink K.takes sink.old sink.new result
+        (line_piece line) }
+{
+    let Some(line) = line else {
+        return Ok(());
+    };
+    let mut digits = Buffer::new();
+    put_pieces(&[b" line ", digits.format(line).as_bytes()], sink)
+}
+
+/// Writes the first line of a reply of several lines: the word that says what it tells, and how many
+/// lines follow.
+///
+/// # Errors
+/// [`Failed`] where a put failed. A front of the line was written then.
+pub fn write_head<K: Sink>(version: u32, word: &str, lines: u64, sink: &mut K) -> Result<(), Failed>
+    ensures puts { Puts K.written K.write_faults K.beside_sink K.takes sink.old sink.new result
+        (head_text version word.now lines) }
+{
+    let mut version_digits = Buffer::new();
+    let mut line_digits = Buffer::new();
+    put_pieces(
+        &[
+            b"@",
+            version_digits.format(version).as_bytes(),
+            b" ",
+            word.as_bytes(),
+            b" ",
+            line_digits.format(lines).as_bytes(),
             b"\n",
         ],
         sink,
     )
 }
 
+/// How many lines the network text of a sheet has.
+fn line_count(sheet: &Sheet) -> u64
+    ensures { result ≡ sheet_lines sheet.now }
+{
+    let net = sheet.net();
+    u64::from(net.routers()) + net.links().len() as u64 + 1
+}
+
+/// Writes the network as a text that loads it again, behind a first line that tells its number of
+/// lines.
+#[tactic(auto, unfolding(crate::specs::Replies::net_text))]
+fn write_net<K: Sink>(version: u32, sheet: &Sheet, sink: &mut K) -> Result<(), Failed>
+    ensures puts { Puts K.written K.write_faults K.beside_sink K.takes sink.old sink.new result
+        (net_text version sheet.now) }
+{
+    write_head(version, "NET", line_count(sheet), sink)?;
+    write_sheet(sheet, sink)
+}
+
+/// Writes the reply to a request that tells of a whole record. NET is the one that there is.
+///
+/// # Errors
+/// [`Failed`] where a put failed. A front of the reply was written then.
+pub fn write_reply<K: Sink>(
+    version: u32,
+    sheet: &Sheet,
+    request: &Request,
+    sink: &mut K,
+) -> Result<(), Failed>
+    requires { IsReported request.now }
+    ensures puts { Puts K.written K.write_faults K.beside_sink K.takes sink.old sink.new result
+        (reply_text version sheet.now request.now) }
+{
+    let Request::Net = request else {
+        unreachable!()
+    };
+    write_net(version, sheet, sink)
+}
+
 /// Writes a space and the name of the router, where it is in the side.
+#[tactic(auto, using(std::proofs::lemmas::Option::get_or_from_slice_get))]
 fn write_name<K: Sink>(sheet: &Sheet, side: &Side, router: u32, sink: &mut K) -> Result<(), Failed>
     requires named { router < length sheet.now.names }
     requires sided { router < length side.now }

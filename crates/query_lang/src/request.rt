@@ -1,11 +1,14 @@
 //! Request lines: what each asks for.
-ghost use Rattle.std.specs.Prelude.{◌≡◌, IfSome, Some};
+ghost use Rattle.std.specs.Prelude.{◌≡◌, IfOk, Some};
 ghost use Rattle.std.specs.Option.{option_copied};
 ghost use Rattle.network_text.specs.Sheets.{number_of};
-ghost use Rattle.query_lang.specs.Requests.{AreEnds, HasEnds, cut_of, pair_of, request_of};
+ghost use Rattle.query_lang.specs.Requests.{IsOf, alone, cut_between, cut_of, fault_number, net_of, request_of};
+ghost use Rattle.query_lang.specs.Requests.{words_ask};
+ghost use Rattle.text_forms.specs.Words.{words_of};
 
 use network_text::Sheet;
-use text_forms::{is_bye, is_load, is_long, is_passed, three_words};
+use text_forms::{is_long, is_passed, split_word, two_words, without_return};
+use thiserror::Error;
 
 /// What a line asks for.
 #[derive(Clone, Copy, PartialEq, Eq, Debug)]
@@ -17,61 +20,134 @@ pub enum Request {
     /// The least cut between two routers, by their numbers. The two differ, and both are routers of
     /// the sheet with which the line was parsed.
     Cut(u32, u32),
+    /// The network.
+    Net,
     /// The end of the session.
     Bye,
-    /// A line that is none of these. It is refused.
-    Refused,
 }
 
-/// The numbers of two routers by their names; none where a name is unknown, or both are the same.
-fn find_pair(sheet: &Sheet, first: &[u8], second: &[u8]) -> Option<(u32, u32)>
-    ensures value { result
-        ≡ pair_of (number_of sheet.now.names first.now) (number_of sheet.now.names second.now) }
-    ensures ends { IfSome result (AreEnds sheet.now) }
-{
-    let a = sheet.number_of(first)?;
-    let b = sheet.number_of(second)?;
-    prove!(a.max(b) < sheet.net().routers());
-    if a == b { None } else { Some((a, b)) }
+/// Why a request line is refused. The first applies in this order: `LineTooLong`, `UnknownWord`,
+/// `WrongCount`, `NoNetwork`, `UnknownRouter`, `SameRouter`.
+#[derive(Clone, Copy, PartialEq, Eq, Debug, Error)]
+pub enum RequestFault {
+    /// The first word is no request word.
+    #[error("unknown word")]
+    UnknownWord,
+    /// The line has more than 512 bytes.
+    #[error("line too long")]
+    LineTooLong,
+    /// The request asks for another number of words.
+    #[error("wrong number of words")]
+    WrongCount,
+    /// A name is that of no router of the network.
+    #[error("unknown router")]
+    UnknownRouter,
+    /// Both names are the same.
+    #[error("the same router twice")]
+    SameRouter,
+    /// There is no network yet.
+    #[error("no network yet")]
+    NoNetwork,
 }
 
-/// The routers that a line asks to part; none where it asks for something else or has a fault.
-fn parse_cut(line: &[u8], sheet: &Sheet) -> Option<(u32, u32)>
-    ensures value { result ≡ cut_of (Some sheet.now) line.now }
-    ensures ends { IfSome result (AreEnds sheet.now) }
-{
-    if is_long(line) {
-        return None;
+impl RequestFault {
+    /// The number by which clients are told of it.
+    pub fn number(self) -> u32
+        ensures { result ≡ fault_number self }
+    {
+        match self {
+            RequestFault::UnknownWord => 1,
+            RequestFault::LineTooLong => 2,
+            RequestFault::WrongCount => 3,
+            RequestFault::UnknownRouter => 4,
+            RequestFault::SameRouter => 5,
+            RequestFault::NoNetwork => 6,
+        }
     }
-    let (word, first, second) = three_words(line)?;
-    if word == b"CUT".as_slice() {
-        find_pair(sheet, first, second)
-    } else {
-        None
-    }
 }
 
-/// What the line asks for, by the names of the sheet. Without a sheet every CUT is refused. A line
-/// is given without its line feed; of one of more than 512 bytes the first 513 suffice. It takes no
-/// memory, and goes over the line a few times.
-pub fn parse_request(line: &[u8], sheet: Option<&Sheet>) -> Request
+/// What the line asks for, by the names of the sheet. A line is given without its line feed; of one
+/// of more than 512 bytes the first 513 suffice. It takes no memory, and goes over the line a few times.
+///
+/// # Errors
+/// The first fault that applies. `NoNetwork` where there is no sheet, for each request but LOAD and BYE.
+pub fn parse_request(line: &[u8], sheet: Option<&Sheet>) -> Result<Request, RequestFault>
     ensures value { result ≡ request_of (option_copied sheet.entry) line.now }
-    ensures ends { HasEnds (option_copied sheet.entry) result }
+    ensures of { IfOk result (IsOf (option_copied sheet.entry)) }
 {
     if is_passed(line) {
-        return Request::Nothing;
+        return Ok(Request::Nothing);
     }
-    if is_load(line) {
-        return Request::Load;
+    if is_long(line) {
+        return Err(RequestFault::LineTooLong);
     }
-    if is_bye(line) {
-        return Request::Bye;
-    }
-    let Some(sheet) = sheet else {
-        return Request::Refused;
+    parse_words(without_return(line), sheet)
+}
+
+/// What the words of a line ask for.
+fn parse_words(text: &[u8], sheet: Option<&Sheet>) -> Result<Request, RequestFault>
+    ensures value { result ≡ words_ask (option_copied sheet.entry) (words_of text.now) }
+    ensures of { IfOk result (IsOf (option_copied sheet.entry)) }
+{
+    let Some((word, behind)) = split_word(text) else {
+        return Ok(Request::Nothing);
     };
-    match parse_cut(line, sheet) {
-        Some((a, b)) => Request::Cut(a, b),
-        None => Request::Refused,
+    if word == b"LOAD".as_slice() {
+        parse_alone(Request::Load, behind)
+    } else if word == b"CUT".as_slice() {
+        parse_cut(behind, sheet)
+    } else if word == b"NET".as_slice() {
+        parse_net(behind, sheet)
+    } else if word == b"BYE".as_slice() {
+        parse_alone(Request::Bye, behind)
+    } else {
+        Err(RequestFault::UnknownWord)
     }
+}
+
+/// A request of one word, by what stands behind it.
+fn parse_alone(request: Request, text: &[u8]) -> Result<Request, RequestFault>
+    ensures { result ≡ alone request (words_of text.now) }
+{
+    if split_word(text).is_some() {
+        return Err(RequestFault::WrongCount);
+    }
+    Ok(request)
+}
+
+/// What the words behind `NET` ask for.
+fn parse_net(text: &[u8], sheet: Option<&Sheet>) -> Result<Request, RequestFault>
+    ensures value { result ≡ net_of (option_copied sheet.entry) (words_of text.now) }
+    ensures of { IfOk result (IsOf (option_copied sheet.entry)) }
+{
+    let request = parse_alone(Request::Net, text)?;
+    if sheet.is_none() {
+        return Err(RequestFault::NoNetwork);
+    }
+    Ok(request)
+}
+
+/// What the words behind `CUT` ask for.
+fn parse_cut(text: &[u8], sheet: Option<&Sheet>) -> Result<Request, RequestFault>
+    ensures value { result ≡ cut_of (option_copied sheet.entry) (words_of text.now) }
+    ensures of { IfOk result (IsOf (option_copied sheet.entry)) }
+{
+    let (first, second) = two_words(text).ok_or(RequestFault::WrongCount)?;
+    let sheet = sheet.ok_or(RequestFault::NoNetwork)?;
+    find_ends(sheet, first, second)
+}
+
+/// The cut between two routers by their names.
+fn find_ends(sheet: &Sheet, first: &[u8], second: &[u8]) -> Result<Request, RequestFault>
+    ensures value { result
+        ≡ cut_between (number_of sheet.now.names first.now) (number_of sheet.now.names second.now) }
+    ensures of { IfOk result (IsOf (Some sheet.now)) }
+{
+    let a = sheet.number_of(first).ok_or(RequestFault::UnknownRouter)?;
+    let b = sheet.number_of(second).ok_or(RequestFault::UnknownRouter)?;
+    prove!(a.max(b) < sheet.net().routers());
+    if a == b {
+        return Err(RequestFault::SameRouter);
+    }
+    Ok(Request::Cut(a, b))
 }

@@ -12,4 +12,4 @@ mod words;
 pub use lines::{is_bye, is_end, is_load, is_long, is_passed, without_return};
 pub use names::is_name;
 pub use numbers::parse_number;
-pub use words::{four_words, split_word, three_words};
+pub use words::{one_word, split_word, three_words, two_words};

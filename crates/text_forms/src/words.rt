@@ -1,9 +1,7 @@
 //! The words of a line: its longest pieces without blanks.
 
 ghost use Rattle.std.specs.Prelude.{◌≡◌, ◌≢◌, [], ◌∷◌, length, nat_lt, not, position, MatchOption};
-ghost use Rattle.text_forms.specs.Words.{is_blank as blank_byte, goes_on, words_of, line_words};
-
-use crate::lines::without_return;
+ghost use Rattle.text_forms.specs.Words.{is_blank as blank_byte, goes_on, words_of};
 
 /// A space or a tab.
 fn is_blank(byte: u8) -> bool
@@ -51,35 +49,35 @@ pub fn split_word(bytes: &[u8]) -> Option<(&[u8], &[u8])>
     Some(text.split_at(end))
 }
 
-/// The words, where there are three.
-fn just_three(bytes: &[u8]) -> Option<(&[u8], &[u8], &[u8])>
-    ensures { MatchOption result (length (words_of bytes.now) ≢ 3)
-        (λ words. words_of bytes.now ≡ words.0.now ∷ words.1.now ∷ words.2.now ∷ []) }
+/// The word of a text, where there is just one. Like those below, it goes over the words that it gives, and no further
+/// than to the beginning of the next.
+pub fn one_word(text: &[u8]) -> Option<&[u8]>
+    ensures { MatchOption result (length (words_of text.now) ≢ 1)
+        (λ word. words_of text.now ≡ word.now ∷ []) }
 {
-    let (first, behind_first) = split_word(bytes)?;
-    let (second, behind_second) = split_word(behind_first)?;
-    let (third, behind_third) = split_word(behind_second)?;
-    if split_word(behind_third).is_some() {
+    let (word, behind) = split_word(text)?;
+    if split_word(behind).is_some() {
         return None;
     }
+    Some(word)
+}
+
+/// The words of a text, where there are just two.
+pub fn two_words(text: &[u8]) -> Option<(&[u8], &[u8])>
+    ensures { MatchOption result (length (words_of text.now) ≢ 2)
+        (λ words. words_of text.now ≡ words.0.now ∷ words.1.now ∷ []) }
+{
+    let (first, behind) = split_word(text)?;
+    let second = one_word(behind)?;
+    Some((first, second))
+}
+
+/// The words of a text, where there are just three.
+pub fn three_words(text: &[u8]) -> Option<(&[u8], &[u8], &[u8])>
+    ensures { MatchOption result (length (words_of text.now) ≢ 3)
+        (λ words. words_of text.now ≡ words.0.now ∷ words.1.now ∷ words.2.now ∷ []) }
+{
+    let (first, behind) = split_word(text)?;
+    let (second, third) = two_words(behind)?;
     Some((first, second, third))
-}
-
-/// The words of a line that has three; none for any other line.
-pub fn three_words(line: &[u8]) -> Option<(&[u8], &[u8], &[u8])>
-    ensures { MatchOption result (length (line_words line.now) ≢ 3)
-        (λ words. line_words line.now ≡ words.0.now ∷ words.1.now ∷ words.2.now ∷ []) }
-{
-    just_three(without_return(line))
-}
-
-/// The words of a line that has four; none for any other line.
-pub fn four_words(line: &[u8]) -> Option<(&[u8], &[u8], &[u8], &[u8])>
-    ensures { MatchOption result (length (line_words line.now) ≢ 4)
-        (λ words. line_words line.now
-        ≡ words.0.now ∷ words.1.now ∷ words.2.now ∷ words.3.now ∷ []) }
-{
-    let (first, behind_first) = split_word(without_return(line))?;
-    let (second, third, fourth) = just_three(behind_first)?;
-    Some((first, second, third, fourth))
 }

@@ -5,11 +5,11 @@ use Rattle.query_lang.proofs.buffer.refusal_reply.Goals as goal
 
 pub unwrap-requires : goal.unwrap-requires
 unwrap-requires c =
-    let text = refused_text c.args.version c.args.number in
-    let short = length-refused_text c.args.version c.args.number in
+    let text = refused_text c.args.version c.args.number c.args.line in
+    let short = length-refused_text c.args.version c.args.number c.args.line in
     c.write_refusal.ensures.puts.sure 0 (takes_text _ text c.clear.ensures.items short)
 
 pub returns : goal.returns
 returns c =
-    let text = refused_text c.args.version c.args.number in
+    let text = refused_text c.args.version c.args.number c.args.line in
     put_alone _ _ text _ c.unwrap.result c.clear.ensures.items c.unwrap.ensures c.write_refusal.ensures.puts.bytes

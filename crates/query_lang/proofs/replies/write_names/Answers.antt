@@ -6,9 +6,13 @@ use Rattle.query_lang.proofs.replies.write_names.Goals as goal
 
 pub loop-router-preserved : goal.loop-router-preserved
 loop-router-preserved g c = λ new result rest.
+    let i = c.loop-router.router in
     let names = c.args.sheet.now.names in
-    let left = side_names-drop names c.args.side.now c.loop-router.router (omega arith) (omega arith) in
-    c.loop-router.invariant new result (rw left (puts_then _ _ c.in_ok-write_name.ensures.puts rest))
+    let side = c.args.side.now in
+    let left = side_names-drop names side i (omega arith) (omega arith) in
+    let piece = name_piece (get_or names i []) (get_or side i false) in
+    let behind = side_names (drop (i + 1) names) (drop (i + 1) side) in
+    c.loop-router.invariant new result (rw left (puts_then piece behind c.in_ok-write_name.ensures.puts rest))
 
 pub returns : goal.returns
 returns g c =

@@ -1,0 +1,74 @@
+//! Writing a sheet as a network text.
+
+ghost use Rattle.std.specs.Prelude.{◌≡◌, ◌<◌, length, Ok};
+ghost use Rattle.std.specs.Prelude.{map};
+ghost use Rattle.std.specs.List.{concat};
+ghost use Rattle.network_text.specs.Sheets.{IsSheet};
+ghost use Rattle.network_text.specs.Writing.{link_text, router_text, sheet_text, verdict_in};
+ghost use Rattle.wires.specs.Puts.{Puts};
+
+use crate::sheet::Sheet;
+use cut_model::Link;
+use itoa::Buffer;
+use wires::{Failed, Sink, put_pieces};
+
+/// Writes the sheet as a network text that has this sheet again: a `router` line for each router in
+/// number order, a `link` line for each link in order, and END. It takes no memory and looks at each
+/// router and each link once.
+///
+/// # Errors
+/// [`Failed`] where a put failed. A front of the text was written then.
+pub fn write_sheet<K: Sink>(sheet: &Sheet, sink: &mut K) -> Result<(), Failed>
+    ensures puts { Puts K.written K.write_faults K.beside_sink K.takes sink.old sink.new result
+        (sheet_text sheet.now) }
+    ensures same_sheet { verdict_in (sheet_text sheet.now) ≡ Ok sheet.now }
+{
+    write_routers(sheet, sink)?;
+    write_links(sheet, sink)?;
+    put_pieces(&[b"END\n"], sink)
+}
+
+/// Writes the line of each router.
+fn write_routers<K: Sink>(sheet: &Sheet, sink: &mut K) -> Result<(), Failed>
+    ensures puts { Puts K.written K.write_faults K.beside_sink K.takes sink.old sink.new result
+        (concat (map router_text sheet.now.names)) }
+    ensures sheet { IsSheet sheet.now.names sheet.now.net }
+{
+    for router in 0..sheet.net().routers() {
+        put_pieces(&[b"router ", sheet.name_of(router), b"\n"], sink)?;
+    }
+    Ok(())
+}
+
+/// Writes the line of each link.
+fn write_links<K: Sink>(sheet: &Sheet, sink: &mut K) -> Result<(), Failed>
+    ensures puts { Puts K.written K.write_faults K.beside_sink K.takes sink.old sink.new result
+        (concat (map (link_text sheet.now.names) sheet.now.net.links)) }
+{
+    for link in sheet.net().links() {
+        write_link(sheet, *link, sink)?;
+    }
+    Ok(())
+}
+
+/// Writes the line of a link.
+fn write_link<K: Sink>(sheet: &Sheet, link: Link, sink: &mut K) -> Result<(), Failed>
+    requires a { link.a < length sheet.now.names }
+    requires b { link.b < length sheet.now.names }
+    ensures puts { Puts K.written K.write_faults K.beside_sink K.takes sink.old sink.new result
+        (link_text sheet.now.names link) }
+{
+    let mut digits = Buffer::new();
+    put_pieces(
+        &[
+            b"link ",
+            sheet.name_of(link.a),
+            b" ",
+            sheet.name_of(link.b),
+            b" ",
+            digits.format(link.cap).as_bytes(),
+            b"\n",
+        ],
+        sink,
+    )
+}
