@@ -1,4 +1,4 @@
--- A router's cursor that moves on, and what the steps of that cost.
+-- A router's cursor that moves on.
 use Rattle.std.proofs.Common.{◌≡◌, ◌≢◌, ℕ, ◌+◌, ◌-◌, ◌*◌, ◌/◌, ◌%◌, ◌<◌, ◌≤◌, true, false, suc, List, [], ◌∷◌, length, get_or, set, sum}
 use Rattle.std.specs.Prelude.{◌==◌}
 use Rattle.std.proofs.Common.{sym, ◌∙◌, ap, subst, arith, refl, inl, inr}
@@ -12,7 +12,7 @@ use Rattle.residual_graph.specs.Places.{begin_of, place_at}
 use Rattle.residual_graph.specs.View.{ResidualView}
 use Rattle.residual_graph.proofs.ByPlace.{arc-between}
 use Rattle.dinic_flow.specs.Levels.{IsLevelled}
-use Rattle.dinic_flow.specs.Phases.{IsSpent, IsBlocked, HasCome, IsPhase, Sends, Costs}
+use Rattle.dinic_flow.specs.Phases.{IsSpent, IsBlocked, HasCome, IsPhase, Sends}
 
 -- A cursor that is put elsewhere is there, and every other one where it was.
 cursor-moved : (cursor : List ℕ) (router v r : ℕ) → router < length cursor → get_or cursor router 0 ≤ v →
@@ -94,34 +94,11 @@ sends-moved before after old mid label router t x v sent within later = record {
   keeps = λ r low apart. (cursor-moved mid router v r within later).1 apart ∙ sent.keeps r low apart;
 }
 
--- ---- what it costs
-
 -- A cursor that is put elsewhere changes the sum of all cursors by as much.
 pub sum-moved : (cursor : List ℕ) (router v from : ℕ) → router < length cursor → get_or cursor router 0 ≡ from →
     sum (set cursor router v) + from ≡ sum cursor + v
 sum-moved cursor router v from within is =
     ap (λ n. sum (set cursor router v) + n) (sym is) ∙ sum_by-set (λ x. x) cursor router v 0 within
-
--- The steps at one place more, with k levels above: two of its own, and those of the router that it leads to.
-pub pays-place : (k old mid new from at before between after : ℕ) →
-    between + 2 * (k * old) + 2 * (k * from) + 2 * from ≤ before + 2 * (k * mid) + 2 * (k * at) + 2 * at →
-    after + 2 * (k * mid) ≤ (between + 2) + 2 * (k * new) + 2 * k →
-    after + 2 * (k * old) + 2 * (k * from) + 2 * from ≤ before + 2 * (k * new) + 2 * (k * (at + 1)) + 2 * (at + 1)
-pays-place k old mid new from at before between after paid more = omega arith
-
--- The steps of all places that were passed, where the router's cursor is put behind them.
-pub pays-passed : (k old mid new from at before after : ℕ) → new + from ≡ mid + at →
-    after + 2 * (k * old) + 2 * (k * from) + 2 * from ≤ before + 2 * (k * mid) + 2 * (k * at) + 2 * at →
-    old ≤ mid →
-    after + 2 * ((k + 1) * old) ≤ before + 2 * ((k + 1) * new) + 2 * (k + 1)
-pays-passed k old mid new from at before after moved paid grows = omega (arith, ap (λ x. k * x) moved)
-
--- The same, where the last place wasn't passed.
-pub pays-last : (k old mid new from at before after : ℕ) → new + from ≡ mid + at →
-    after + 2 * (k * old) + 2 * (k * from) + 2 * from ≤ before + 2 * (k * mid) + 2 * (k * (at + 1)) + 2 * (at + 1) →
-    old ≤ mid →
-    after + 2 * ((k + 1) * old) ≤ before + 2 * ((k + 1) * new) + 2 * (k + 1)
-pays-last k old mid new from at before after moved paid grows = omega (arith, ap (λ x. k * x) moved)
 
 -- ---- t is never spent
 
