@@ -1,18 +1,17 @@
 -- A router's cursor that moves on.
-use Rattle.std.proofs.Common.{◌≡◌, ◌≢◌, ℕ, ◌+◌, ◌-◌, ◌*◌, ◌/◌, ◌%◌, ◌<◌, ◌≤◌, true, false, suc, List, [], ◌∷◌, length, get_or, set, sum}
+use Rattle.std.proofs.Common.{◌≡◌, ◌≢◌, ℕ, ◌+◌, ◌-◌, ◌/◌, ◌%◌, ◌<◌, ◌≤◌, true, false, suc, List, [], ◌∷◌, length, get_or, set, sum}
 use Rattle.std.specs.Prelude.{◌==◌}
 use Rattle.std.proofs.Common.{sym, ◌∙◌, ap, subst, arith, refl, inl, inr}
 use Rattle.std.proofs.lemmas.Bool.{cases_eq, cases_lt, eq-eqb, ne_eqb}
 use Rattle.std.proofs.lemmas.List.{length-set, get_or-set_same, get_or-set_other}
 use Rattle.std.proofs.lemmas.List.Sums.{sum_by-set, sum_by-cons}
-use Rattle.cut_model.specs.declared.network.Link.{Link}
 use Rattle.cut_model.specs.Net.{Net}
-use Rattle.residual_graph.specs.Arcs.{link_of, tail_in, head_in, tail_of, head_of, arc_count, twin}
+use Rattle.residual_graph.specs.Arcs.{tail_in, head_in, tail_of, head_of, arc_count, twin}
 use Rattle.residual_graph.specs.Places.{begin_of, place_at}
 use Rattle.residual_graph.specs.View.{ResidualView}
 use Rattle.residual_graph.proofs.ByPlace.{arc-between}
 use Rattle.dinic_flow.specs.Levels.{IsLevelled}
-use Rattle.dinic_flow.specs.Phases.{IsSpent, IsBlocked, HasCome, IsPhase, Sends}
+use Rattle.dinic_flow.specs.Phases.{IsSpent, IsBlocked, IsPhase, Sends}
 
 -- A cursor that is put elsewhere is there, and every other one where it was.
 cursor-moved : (cursor : List ℕ) (router v r : ℕ) → router < length cursor → get_or cursor router 0 ≤ v →

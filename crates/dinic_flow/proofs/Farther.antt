@@ -1,19 +1,19 @@
 -- Once s is spent, each walk to t has more arcs than the levels have steps.
-use Rattle.std.proofs.Common.{◌≡◌, ◌≢◌, ◌⊎◌, ℕ, zero, suc, ◌+◌, ◌-◌, ◌*◌, ◌<◌, ◌≤◌, List, [], ◌∷◌, length, get_or, sum}
-use Rattle.std.proofs.Common.{sym, ◌∙◌, ap, subst, arith, refl, inl, inr, mul-le-mul_left}
+use Rattle.std.proofs.Common.{◌≡◌, ◌≢◌, ℕ, zero, suc, ◌+◌, ◌-◌, ◌*◌, ◌<◌, ◌≤◌, List, [], ◌∷◌, length, get_or, sum}
+use Rattle.std.proofs.Common.{ap, subst, arith, refl, inl, inr, mul-le-mul_left}
 use Rattle.std.specs.Prelude.{ℤ, pos, ◌≤ℤ◌, ◌<ℤ◌}
 use Rattle.std.proofs.lemmas.Int.{ints}
 use Rattle.std.proofs.lemmas.Bool.{cases_lt, cases_eq, eq-eqb}
 use Rattle.std.proofs.lemmas.List.Sums.{sum_by-cons}
 use Rattle.cut_model.specs.Net.{Net}
 use Rattle.residual_graph.specs.declared.place.Place.{Place}
-use Rattle.residual_graph.specs.Arcs.{tail_of, head_of, arc_count}
+use Rattle.residual_graph.specs.Arcs.{arc_count}
 use Rattle.residual_graph.specs.Places.{begin_of, place_at}
 use Rattle.residual_graph.specs.View.{ResidualView, IsSound}
 use Rattle.residual_graph.proofs.ByPlace.{arc-between, begin-zero, begin-next, begin-end}
 use Rattle.residual_graph.proofs.Listed.{head_below}
 use Rattle.dinic_flow.specs.Levels.{OpenArc, Walk, IsFartherThan, height, IsLevelled}
-use Rattle.dinic_flow.specs.Phases.{Rises, IsSpent, IsBlocked, HasCome, IsPhase}
+use Rattle.dinic_flow.specs.Phases.{Rises, IsSpent, IsBlocked, IsPhase}
 use Rattle.dinic_flow.proofs.Relays.{height-label}
 
 -- An open arc rises by one level at most.
@@ -58,6 +58,7 @@ labelled view least t label levelled some (suc arcs) u (w, arc, rest) steep = el
     ))
 ]
 
+-- No arc is both closed and open.
 closed-open : (x : ℤ) (least : ℕ) → x <ℤ pos least → pos least ≤ℤ x → ⊥
 closed-open x least below above = omega (arith, ints, below, above)
 

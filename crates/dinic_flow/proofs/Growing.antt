@@ -1,8 +1,7 @@
 -- A flow that grows phase by phase: how far t is, and what that cost.
-use Rattle.std.proofs.Common.{◌≡◌, ◌≢◌, ℕ, zero, suc, ◌+◌, ◌-◌, ◌*◌, ◌<◌, ◌≤◌, List, length, get_or}
-use Rattle.std.proofs.Common.{sym, ◌∙◌, ap, subst, arith, refl, inl, inr, mul-le-mul_left}
+use Rattle.std.proofs.Common.{◌≡◌, ◌≢◌, ℕ, zero, suc, ◌+◌, ◌-◌, ◌*◌, ◌<◌, ◌≤◌, List, get_or}
+use Rattle.std.proofs.Common.{◌∙◌, ap, arith, refl, inl, inr, mul-le-mul_left}
 use Rattle.std.proofs.lemmas.Bool.{cases_lt}
-use Rattle.cut_model.specs.Net.{Net}
 use Rattle.cut_model.specs.Flow.{IsFlow}
 use Rattle.residual_graph.specs.Arcs.{arc_count}
 use Rattle.residual_graph.specs.View.{ResidualView, IsSound}
@@ -36,6 +35,7 @@ walk-some : (view : ResidualView) (least s t : ℕ) → s ≢ t → (arcs : ℕ)
 walk-some view least s t apart zero is = absurd (apart is)
 walk-some view least s t apart (suc arcs) (w, arc, rest) = (omega arith, omega (arith, arc.within))
 
+-- A flow before any phase.
 pub grows-none : (view : ResidualView) (least s t value steps : ℕ) → IsSound view → s < view.net.routers →
     IsFlow view.net s t view.flow value → HasGrown view view least s t value 0 steps steps
 grows-none view least s t value steps sound small flow = record {

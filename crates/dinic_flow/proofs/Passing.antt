@@ -1,6 +1,6 @@
 -- A router that goes over its places one after another.
 use Rattle.std.proofs.Common.{◌≡◌, ◌≢◌, ℕ, ◌+◌, ◌-◌, ◌*◌, ◌<◌, ◌≤◌, List, length, get_or, set, sum}
-use Rattle.std.proofs.Common.{◌∙◌, sym, ap, subst, arith, refl, inl, inr}
+use Rattle.std.proofs.Common.{◌∙◌, sym, ap, subst, arith, inl, inr}
 use Rattle.std.proofs.lemmas.Bool.{cases_lt}
 use Rattle.cut_model.specs.Net.{Net}
 use Rattle.residual_graph.specs.Arcs.{tail_of, arc_count}
@@ -10,7 +10,7 @@ use Rattle.residual_graph.proofs.ByPlace.{between-is, begin-most}
 use Rattle.dinic_flow.specs.Phases.{IsBlocked, IsPhase, Sends, Costs}
 use Rattle.dinic_flow.proofs.Relays.{sends-both, passed-later}
 use Rattle.dinic_flow.proofs.Advancing.{phase-moved, sends-moved, sum-moved, sums-grow, below-top}
-use Rattle.dinic_flow.proofs.Paying.{pays-place, pays-passed, pays-last}
+use Rattle.dinic_flow.proofs.Paying.{pays-passed, pays-last}
 
 -- A router that began in the one state of a phase has sent so much, has passed the places from its cursor up
 -- to one, and hasn't moved its cursor yet.
@@ -27,17 +27,6 @@ pub passing-net : (start view : ResidualView) (least router t sent : ℕ) (label
     IsPassing start view least router t sent label first cursor at → view.net ≡ start.net
 passing-net start view least router t sent label first cursor at passing =
     ap (λ (v : ResidualView). v.net) passing.sends.same
-
--- A router that has passed nothing yet.
-pub passing-none : (view : ResidualView) (least router t : ℕ) (label cursor : List ℕ) (at : ℕ) →
-    IsPhase view least t label cursor → Sends view view cursor cursor label router t 0 → at ≤ get_or cursor router 0 →
-    IsPassing view view least router t 0 label cursor cursor at
-passing-none view least router t label cursor at phase sends early = record {
-  phase = phase;
-  sends = sends;
-  own = refl;
-  blocked = λ p low high. absurd (omega arith);
-}
 
 -- What holds at a place of the router that isn't passed yet.
 pub record IsNext (view : ResidualView) (router at : ℕ) : Type 0 where
@@ -119,6 +108,7 @@ passing-within start view least router t sent label first cursor at passing =
     passing.phase.come.size
     ∙ ap (λ (n : Net). n.routers) (passing-net start view least router t sent label first cursor at passing)
 
+-- What it sent is what it had sent.
 pub passed-sends : (start view : ResidualView) (least router t sent : ℕ) (label first cursor : List ℕ) (at : ℕ) →
     IsPassing start view least router t sent label first cursor at → router < start.net.routers →
     get_or first router 0 ≤ at → Sends start view first (set cursor router at) label router t sent

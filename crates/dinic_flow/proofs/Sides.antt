@@ -1,11 +1,11 @@
 -- Sides that get routers, and the least side of two routers.
-use Rattle.std.proofs.Common.{◌≡◌, ◌≢◌, ℕ, ◌+◌, ◌*◌, ◌<◌, ◌≤◌, Bool, true, false, List, length, get_or, set, replicate, take}
-use Rattle.std.proofs.Common.{sym, ◌∙◌, ap, subst, arith, refl, inl, inr}
-use Rattle.std.specs.Prelude.{pos, Contains, ◌↔◌}
+use Rattle.std.proofs.Common.{◌≡◌, ◌≢◌, ℕ, ◌<◌, Bool, true, false, List, length, set, replicate}
+use Rattle.std.proofs.Common.{sym, ◌∙◌, subst, arith, inl, inr}
+use Rattle.std.specs.Prelude.{Contains, ◌↔◌}
 use Rattle.std.proofs.lemmas.Bool.{cases_Bool, cases_eq, cases_lt, false≢true}
-use Rattle.std.proofs.lemmas.List.{get_or_past, get_or_default, get_or-set_same, get_or-set_other, get_or-replicate, length-replicate}
-use Rattle.cut_model.specs.Cuts.{RouterSet, set_of, IsLeastSide}
-use Rattle.cut_model.specs.Flow.{IsFlow, IsClosed, Reaches}
+use Rattle.std.proofs.lemmas.List.{get_or_past, get_or-set_same, get_or-set_other, get_or-replicate, length-replicate}
+use Rattle.cut_model.specs.Cuts.{set_of, IsLeastSide}
+use Rattle.cut_model.specs.Flow.{IsFlow, IsClosed}
 use Rattle.cut_model.proofs.Reached.{reached_least}
 use Rattle.residual_graph.specs.View.{ResidualView, IsSound}
 use Rattle.dinic_flow.specs.Levels.{OpenArc}

@@ -1,5 +1,5 @@
 -- Sending on over one arc, and over the arcs of a router one after another.
-use Rattle.std.proofs.Common.{◌≡◌, ◌≢◌, ℕ, ◌+◌, ◌-◌, ◌*◌, ◌<◌, ◌≤◌, get_or, sum}
+use Rattle.std.proofs.Common.{◌≡◌, ◌≢◌, ℕ, ◌+◌, ◌-◌, ◌<◌, ◌≤◌, get_or, sum}
 use Rattle.std.proofs.Common.{sym, ◌∙◌, ap, subst, arith, inr, rules}
 use Rattle.std.specs.Prelude.{pos}
 use Rattle.cut_model.specs.Net.{Net}
@@ -8,10 +8,10 @@ use Rattle.residual_graph.specs.Arcs.{tail_of, head_of, arc_count}
 use Rattle.residual_graph.specs.Places.{begin_of, place_at}
 use Rattle.residual_graph.specs.View.{ResidualView, left_on}
 use Rattle.dinic_flow.specs.Phases.{IsSpent, IsBlocked}
-use Rattle.dinic_flow.proofs.Relays.{is_over, over-sends, over-blocked, phase-push, place_at-head, sends-start}
+use Rattle.dinic_flow.proofs.Relays.{is_over, over-sends, over-blocked, phase-push, place_at-head}
 use Rattle.dinic_flow.proofs.Advancing.{unspent, below-top}
 use Rattle.dinic_flow.proofs.Paying.{pays-place}
-use Rattle.dinic_flow.proofs.Passing.{passing-net, passing-none, is_next, passing-more, passing-on}
+use Rattle.dinic_flow.proofs.Passing.{passing-net, is_next, passing-more, passing-on}
 use Rattle.dinic_flow.proofs.Passing.{passed-phase, passed-sends, passed-costs, last-costs}
 use Rattle.dinic_flow.proofs.blocking.+blocking.Goals as goal
 

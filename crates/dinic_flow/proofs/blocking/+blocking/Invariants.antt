@@ -1,4 +1,4 @@
-use Rattle.std.proofs.Common.{ℕ, ◌+◌, ◌-◌, ◌*◌, ◌<◌, get_or}
+use Rattle.std.proofs.Common.{◌+◌, ◌-◌, ◌*◌, ◌<◌, get_or}
 use Rattle.dinic_flow.proofs.Passing.{IsPassing, HasPaid}
 use Rattle.dinic_flow.proofs.blocking.+blocking.Given as goal
 

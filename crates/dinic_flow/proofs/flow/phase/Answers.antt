@@ -1,14 +1,11 @@
 -- A phase sends less than the limit, so that s is spent in the end.
-use Rattle.std.proofs.Common.{◌≡◌, ℕ, ◌+◌, ◌-◌, ◌*◌, ◌<◌, ◌≤◌, get_or, sum, sym, ap, subst, arith}
+use Rattle.std.proofs.Common.{◌≡◌, ◌+◌, ◌-◌, get_or, sum, ap, arith}
 use Rattle.cut_model.specs.Net.{Net}
 use Rattle.cut_model.specs.Flow.{IsFlow}
 use Rattle.residual_graph.specs.Arcs.{arc_count}
 use Rattle.residual_graph.specs.View.{ResidualView}
-use Rattle.dinic_flow.specs.Sending.{SendsMore}
-use Rattle.dinic_flow.specs.Phases.{IsSpent, Costs}
 use Rattle.dinic_flow.proofs.Sending.{flow-more}
 use Rattle.dinic_flow.proofs.Flows.{flow-small}
-use Rattle.dinic_flow.proofs.Advancing.{below-top}
 use Rattle.dinic_flow.proofs.Farther.{phase-begun, farther, cursors-move, phase-pays}
 use Rattle.dinic_flow.proofs.flow.phase.Goals as goal
 
