@@ -1,5 +1,6 @@
 -- A router's cursor that moves on.
-use Rattle.std.proofs.Common.{◌≡◌, ◌≢◌, ℕ, ◌+◌, ◌-◌, ◌/◌, ◌%◌, ◌<◌, ◌≤◌, true, false, suc, List, [], ◌∷◌, length, get_or, set, sum}
+use Rattle.std.proofs.Common.{◌≡◌, ◌≢◌, ℕ, suc, ◌+◌, ◌-◌, ◌/◌, ◌%◌, ◌<◌, ◌≤◌, true, false}
+use Rattle.std.proofs.Common.{List, [], ◌∷◌, length, get_or, set, sum}
 use Rattle.std.specs.Prelude.{◌==◌}
 use Rattle.std.proofs.Common.{sym, ◌∙◌, ap, subst, arith, refl, inl, inr}
 use Rattle.std.proofs.lemmas.Bool.{cases_eq, cases_lt, eq-eqb, ne_eqb}
@@ -15,11 +16,18 @@ use Rattle.dinic_flow.specs.Phases.{IsSpent, IsBlocked, IsPhase, Sends}
 
 -- A cursor that is put elsewhere is there, and every other one where it was.
 cursor-moved : (cursor : List ℕ) (router v r : ℕ) → router < length cursor → get_or cursor router 0 ≤ v →
-    (get_or cursor r 0 ≤ get_or (set cursor router v) r 0) × (r ≢ router → get_or (set cursor router v) r 0 ≡ get_or cursor r 0)
+    (get_or cursor r 0 ≤ get_or (set cursor router v) r 0)
+    × (r ≢ router → get_or (set cursor router v) r 0 ≡ get_or cursor r 0)
 cursor-moved cursor router v r within later = elim (cases_eq r router) [
-  | inl same ↦
-      (omega (arith, ap (λ (x : ℕ). get_or cursor x 0) same, ap (λ (x : ℕ). get_or (set cursor router v) x 0) same,
-      get_or-set_same cursor router v 0 within), λ apart. absurd (apart same))
+  | inl same ↦ (
+    omega (
+      arith,
+      ap (λ (x : ℕ). get_or cursor x 0) same,
+      ap (λ (x : ℕ). get_or (set cursor router v) x 0) same,
+      get_or-set_same cursor router v 0 within,
+    ),
+    λ apart. absurd (apart same),
+  )
   | inr apart ↦
       let other = get_or-set_other cursor router r v 0 apart in
       (omega (arith, other), λ _. other)
@@ -38,7 +46,8 @@ blocked-moved view least t label old new arc stays was leads = elim (was leads) 
 pub phase-moved : (view : ResidualView) (least t : ℕ) (label cursor : List ℕ) (router v : ℕ) →
     IsPhase view least t label cursor → router < view.net.routers → router ≢ t →
     get_or cursor router 0 ≤ v → v ≤ begin_of view.net (router + 1) →
-    ((at : ℕ) → get_or cursor router 0 ≤ at → at < v → IsBlocked view least t label cursor (place_at view.net at).arc) →
+    ((at : ℕ) → get_or cursor router 0 ≤ at → at < v →
+    IsBlocked view least t label cursor (place_at view.net at).arc) →
     IsPhase view least t label (set cursor router v)
 phase-moved view least t label cursor router v old small apart later most passed =
     let within : router < length cursor = omega (arith, old.come.size) in
@@ -121,8 +130,8 @@ twin-within : (net : Net) (arc : ℕ) → arc < arc_count net → twin arc < arc
 twin-within net arc within = omega (arith, (twin-ends net arc).1)
 
 -- A spent router that an arc goes to isn't t, whose cursor is at its first place.
-pub unspent : (view : ResidualView) (least t : ℕ) (label cursor : List ℕ) (arc : ℕ) → IsPhase view least t label cursor →
-    arc < arc_count view.net → IsSpent view.net cursor (head_of view.net arc) → head_of view.net arc ≢ t
+pub unspent : (view : ResidualView) (least t : ℕ) (label cursor : List ℕ) (arc : ℕ) →
+    IsPhase view least t label cursor → arc < arc_count view.net → IsSpent view.net cursor (head_of view.net arc) → head_of view.net arc ≢ t
 unspent view least t label cursor arc phase within spent is =
     let net : Net = view.net in
     let other : ℕ = twin arc in

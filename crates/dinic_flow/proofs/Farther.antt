@@ -50,12 +50,12 @@ labelled view least t label levelled some zero u is steep =
 labelled view least t label levelled some (suc arcs) u (w, arc, rest) steep = elim (cases_eq (get_or label u 0) 0) [
   | inr ne ↦ omega arith
   | inl none ↦ absurd (omega (
-      arith,
-      climbs view least t label levelled some arcs w rest,
-      arc-stays view least t u w label levelled arc none,
-      height-none levelled.mid label u none,
-      steep,
-    ))
+    arith,
+    climbs view least t label levelled some arcs w rest,
+    arc-stays view least t u w label levelled arc none,
+    height-none levelled.mid label u none,
+    steep,
+  ))
 ]
 
 -- No arc is both closed and open.
@@ -73,7 +73,8 @@ stuck view least t label cursor phase some (suc arcs) u (w, arc, rest) steep apa
     let above = climbs view least t label phase.levelled some arcs w rest in
     let below = arc-rises view least t u w label phase.levelled arc in
     let steep_on : get_or label t 0 ≡ height mid label w + arcs = omega (arith, above, below, steep) in
-    let low = height-label mid label u (labelled view least t label phase.levelled some (suc arcs) u (w, arc, rest) steep) in
+    let low = height-label mid label u
+    (labelled view least t label phase.levelled some (suc arcs) u (w, arc, rest) steep) in
     let high = height-label mid label w (labelled view least t label phase.levelled some arcs w rest steep_on) in
     let on : get_or label w 0 ≡ get_or label u 0 + 1 = omega (arith, low, high, steep, steep_on) in
     let leads : Rises view.net label arc.arc = rw (arc.tail, arc.head) on in
@@ -87,7 +88,8 @@ stuck view least t label cursor phase some (suc arcs) u (w, arc, rest) steep apa
       | inl closed ↦ closed-open _ least closed arc.is_open
       | inr other ↦
           let next : (w ≢ t) × IsSpent view.net cursor w = rw arc.head at other in
-          let inside : w < view.net.routers = rw arc.head at (head_below view.net phase.sound.limits arc.arc arc.within) in
+          let inside : w < view.net.routers =
+          rw arc.head at (head_below view.net phase.sound.limits arc.arc arc.within) in
           stuck view least t label cursor phase some arcs w rest steep_on next.0 inside next.1
     ]
 
@@ -101,7 +103,9 @@ farther view least s t label cursor phase start apart small spent arcs walk =
     let above = climbs view least t label phase.levelled some arcs s walk in
     elim (cases_lt (get_or label t 0 - 1) arcs) [
       | inl less ↦ less
-      | inr short ↦ absurd (stuck view least t label cursor phase some arcs s walk (omega (arith, above, short, low)) apart small spent)
+      | inr short ↦
+          let steep : get_or label t 0 ≡ height phase.levelled.mid label s + arcs = omega (arith, above, short, low) in
+          absurd (stuck view least t label cursor phase some arcs s walk steep apart small spent)
     ]
 
 -- ---- where a phase begins, and what all of it costs
@@ -131,11 +135,17 @@ sums-step f [] [] from long low high = let same : from + 0 ≡ from = omega arit
 sums-step f [] (y ∷ ys) from long low high = absurd (omega arith)
 sums-step f (x ∷ xs) [] from long low high = absurd (omega arith)
 sums-step f (x ∷ xs) (y ∷ ys) from long low high =
-    let first : f from ≤ x = let same : from + 0 ≡ from = omega arith in subst (λ (n : ℕ). f n ≤ x) same (low 0 (omega arith)) in
-    let last : y ≤ f (from + 1) = let same : from + 0 + 1 ≡ from + 1 = omega arith in subst (λ (n : ℕ). y ≤ f n) same (high 0 (omega arith)) in
+    let at : from + 0 ≡ from = omega arith in
+    let first : f from ≤ x = subst (λ (n : ℕ). f n ≤ x) at (low 0 (omega arith)) in
+    let at_next : from + 0 + 1 ≡ from + 1 = omega arith in
+    let last : y ≤ f (from + 1) = subst (λ (n : ℕ). y ≤ f n) at_next (high 0 (omega arith)) in
     let rest = sums-step f xs ys (from + 1) (omega arith)
-    (λ i within. let same : from + suc i ≡ from + 1 + i = omega arith in subst (λ (n : ℕ). f n ≤ get_or xs i 0) same (low (suc i) (omega arith)))
-    (λ i within. let same : from + suc i + 1 ≡ from + 1 + i + 1 = omega arith in subst (λ (n : ℕ). get_or ys i 0 ≤ f n) same (high (suc i) (omega arith))) in
+    (λ i within.
+    let same : from + suc i ≡ from + 1 + i = omega arith in
+    subst (λ (n : ℕ). f n ≤ get_or xs i 0) same (low (suc i) (omega arith)))
+    (λ i within.
+    let same : from + suc i + 1 ≡ from + 1 + i + 1 = omega arith in
+    subst (λ (n : ℕ). get_or ys i 0 ≤ f n) same (high (suc i) (omega arith))) in
     let end : from + 1 + length xs ≡ from + suc (length xs) = omega arith in
     omega (arith, sum_by-cons (λ n. n) x xs, sum_by-cons (λ n. n) y ys, rw end at rest)
 
@@ -147,7 +157,9 @@ cursors-move view least t label old new sound phase size begun =
     let net : Net = view.net in
     let all = sums-step (begin_of net) old new 0 (omega (arith, size, phase.come.size))
     (λ i within. let same : 0 + i ≡ i = omega arith in rw same (omega (arith, begun i (omega (arith, size, within)))))
-    (λ i within. let same : 0 + i + 1 ≡ i + 1 = omega arith in rw same (phase.come.below i (omega (arith, size, within)))) in
+    (λ i within.
+    let same : 0 + i + 1 ≡ i + 1 = omega arith in
+    rw same (phase.come.below i (omega (arith, size, within)))) in
     let end : 0 + length old ≡ net.routers = omega (arith, size) in
     omega (arith, rw end at all, begin-zero net, begin-end net sound.limits)
 

@@ -29,8 +29,8 @@ passing-net start view least router t sent label first cursor at passing =
     ap (λ (v : ResidualView). v.net) passing.sends.same
 
 -- What holds at a place of the router that isn't passed yet.
-pub record IsNext (view : ResidualView) (router at : ℕ) : Type 0 where
-  pub low : begin_of view.net router ≤ at
+pub record IsNext (view : ResidualView) (router : ℕ) (first : List ℕ) (at : ℕ) : Type 0 where
+  pub from : begin_of view.net router ≤ get_or first router 0
   pub high : at < begin_of view.net (router + 1)
   pub inside : at < arc_count view.net
   pub small : router < view.net.routers
@@ -40,30 +40,30 @@ pub record IsNext (view : ResidualView) (router at : ℕ) : Type 0 where
 pub is_next : (start view : ResidualView) (least router t sent : ℕ) (label first cursor : List ℕ) (at end : ℕ) →
     IsPassing start view least router t sent label first cursor at → IsPhase start least t label first →
     router < start.net.routers → get_or first router 0 ≤ at → at < end → end ≡ begin_of start.net (router + 1) →
-    IsNext view router at
+    IsNext view router first at
 is_next start view least router t sent label first cursor at end passing began small low high is_end =
     let net = passing-net start view least router t sent label first cursor at passing in
     let inside : router < view.net.routers = rw net small in
-    let from : begin_of view.net router ≤ at = rw net (omega (arith, began.come.above router small, low)) in
+    let from : begin_of view.net router ≤ get_or first router 0 = rw net (began.come.above router small) in
     let to : at < begin_of view.net (router + 1) = rw net (omega (arith, high, is_end)) in
     let most = begin-most view.net passing.phase.sound.limits (router + 1) (omega arith) in
     record {
-      low = from;
+      from = from;
       high = to;
       inside = omega (arith, to, most);
       small = inside;
-      leaves = between-is view.net passing.phase.sound.limits router at inside from to;
+      leaves = between-is view.net passing.phase.sound.limits router at inside (omega (arith, from, low)) to;
     }
 
 -- The router sent some more over the arc at the next place, and its cursor is where it was.
 pub passing-more : (start view after : ResidualView) (least router t sent more : ℕ)
     (label first cursor new : List ℕ) (at : ℕ) → IsPassing start view least router t sent label first cursor at →
-    IsNext view router at → begin_of view.net router ≤ get_or first router 0 → IsPhase after least t label new →
+    IsNext view router first at → IsPhase after least t label new →
     Sends view after cursor new label (tail_of view.net (place_at view.net at).arc) t more →
     get_or new (tail_of view.net (place_at view.net at).arc) 0
     ≡ get_or cursor (tail_of view.net (place_at view.net at).arc) 0 →
     IsPassing start after least router t (sent + more) label first new at
-passing-more start view after least router t sent more label first cursor new at passing next from phase sends own =
+passing-more start view after least router t sent more label first cursor new at passing next phase sends own =
     let sent_on : Sends view after cursor new label router t more =
     subst (λ (r : ℕ). Sends view after cursor new label r t more) next.leaves.tail sends in
     record {
@@ -71,7 +71,7 @@ passing-more start view after least router t sent more label first cursor new at
       sends = sends-both start view after first cursor new label router t sent more passing.sends sent_on;
       own = subst (λ (r : ℕ). get_or new r 0 ≡ get_or cursor r 0) next.leaves.tail own ∙ passing.own;
       blocked = passed-later view after cursor new label least router t more (get_or first router 0) at sent_on phase
-          passing.phase.sound.limits next.small from (omega (arith, next.high)) passing.blocked;
+          passing.phase.sound.limits next.small next.from (omega (arith, next.high)) passing.blocked;
     }
 
 -- A place whose arc is blocked is passed.
@@ -99,7 +99,8 @@ pub passed-phase : (start view : ResidualView) (least router t sent : ℕ) (labe
 passed-phase start view least router t sent label first cursor at passing small apart low high =
     let net = passing-net start view least router t sent label first cursor at passing in
     phase-moved view least t label cursor router at passing.phase (rw net small) apart
-    (omega (arith, passing.own, low)) (rw net high) (λ p from to. passing.blocked p (omega (arith, passing.own, from)) to)
+    (omega (arith, passing.own, low)) (rw net high)
+    (λ p from to. passing.blocked p (omega (arith, passing.own, from)) to)
 
 -- All cursors have a place for the router.
 passing-within : (start view : ResidualView) (least router t sent : ℕ) (label first cursor : List ℕ) (at : ℕ) →
@@ -159,7 +160,8 @@ passed-costs start view least router t sent label first cursor at before after p
 pub last-costs : (start view : ResidualView) (least router t sent : ℕ) (label first cursor : List ℕ) (at : ℕ)
     (before after : ℕ) → IsPassing start view least router t sent label first cursor at →
     IsPhase start least t label first → router < start.net.routers → router ≢ t →
-    HasPaid (get_or label t 0 - (get_or label router 0 + 1)) first cursor (get_or first router 0) (at + 1) before after →
+    HasPaid (get_or label t 0 - (get_or label router 0 + 1)) first cursor (get_or first router 0) (at + 1) before
+    after →
     Costs (get_or label t 0 - get_or label router 0) first (set cursor router at) before after
 last-costs start view least router t sent label first cursor at before after passing began small apart paid =
     let k : ℕ = get_or label t 0 - (get_or label router 0 + 1) in

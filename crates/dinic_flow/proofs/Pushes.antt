@@ -113,7 +113,8 @@ pub record IsTwin (net : Net) (other arc : ℕ) : Type 0 where
   pub head : head_of net other ≡ tail_of net arc
 
 -- The ends of an arc and of its twin.
-ends-turned : (forth : Bool) (a b : ℕ) → (cond (not forth) a b ≡ cond forth b a) × (cond (not forth) b a ≡ cond forth a b)
+ends-turned : (forth : Bool) (a b : ℕ) →
+    (cond (not forth) a b ≡ cond forth b a) × (cond (not forth) b a ≡ cond forth a b)
 ends-turned true a b = (refl, refl)
 ends-turned false a b = (refl, refl)
 

@@ -220,7 +220,9 @@ sends-over before between after old new label arc t amount sent push within =
             ∙ sent.spares other inside (omega (arith, leads, low))
       ];
       moves = sent.moves;
-      keeps = λ r low apart. sent.keeps r (omega (arith, leads, low)) (λ e. omega (arith, ap (λ (x : ℕ). get_or label x 0) e, low, leads));
+      keeps = λ r low apart.
+          sent.keeps r (omega (arith, leads, low))
+          (λ e. omega (arith, ap (λ (x : ℕ). get_or label x 0) e, low, leads));
     }
 
 -- Two amounts one behind another.
@@ -336,7 +338,8 @@ pub over-blocked : (before between after : ResidualView) (old new label : List �
     pos left ≡ left_on before arc → most ≡ min left limit → amount ≤ most →
     (amount < most → (head_of before.net arc ≢ t) × IsSpent between.net new (head_of before.net arc)) →
     amount < limit → IsBlocked after least t label new arc
-over-blocked before between after old new label arc least t left most limit amount over some is most_is below spent short leads =
+over-blocked before between after old new label arc least t left most limit amount over some is most_is below spent
+    short leads =
     let same : after.net ≡ between.net = push-net between after label arc amount over.push in
     let led : Rises before.net label arc = rw over.same at over.push.leads in
     let spared : left_on between arc ≡ left_on before arc = over.sent.spares arc over.within (omega (arith, led)) in

@@ -73,138 +73,168 @@ send_over-returns-clause-blocked g t c =
     over-blocked c.args.graph.now c.send_on-sent.new.graph c.push_some.new.graph c.args.cursor.now
     c.send_on-sent.new.cursor c.args.label.now arc c.args.least c.args.t c.left-left.result c.min-most.result
     c.args.limit c.send_on-sent.result over c.requires.least left c.min-most.ensures c.send_on-sent.ensures.most
-    (subst (λ (r : ℕ). c.send_on-sent.result < c.min-most.result → (r ≢ c.args.t) × IsSpent c.send_on-sent.new.graph.net c.send_on-sent.new.cursor r)
-    head c.send_on-sent.ensures.spent)
+    (subst (λ (r : ℕ). c.send_on-sent.result < c.min-most.result →
+    (r ≢ c.args.t) × IsSpent c.send_on-sent.new.graph.net c.send_on-sent.new.cursor r) head c.send_on-sent.ensures.spent)
 
 pub send-send_over-sent-requires : goal.send-send_over-sent-requires
 send-send_over-sent-requires g t c κs within =
-    let next = is_next c.args.graph.now c.loop-at.graph c.args.least c.args.router c.args.t c.loop-at.sent c.args.label.now
-    c.args.cursor.now c.loop-at.cursor c.loop-at.at c.begin-end.result
-    c.loop-at.invariant.passing c.requires.phase c.requires.router (omega arith) (omega arith) c.begin-end.ensures.value in
-    let net = passing-net c.args.graph.now c.loop-at.graph c.args.least c.args.router c.args.t c.loop-at.sent c.args.label.now
-    c.args.cursor.now c.loop-at.cursor c.loop-at.at
-    c.loop-at.invariant.passing in
+    let start = c.args.graph.now in
+    let view = c.loop-at.graph in
+    let label = c.args.label.now in
+    let first = c.args.cursor.now in
+    let router = c.args.router in
+    let at = c.loop-at.at in
+    let was = c.loop-at.invariant.passing in
+    let next = is_next start view c.args.least router c.args.t c.loop-at.sent label first c.loop-at.cursor at
+    c.begin-end.result was c.requires.phase c.requires.router (omega arith) (omega arith)
+    c.begin-end.ensures.value in
+    let net = passing-net start view c.args.least router c.args.t c.loop-at.sent label first c.loop-at.cursor at was in
     let inside = next.inside in
-    let leaves : get_or c.args.label.now c.args.router 0 + 1
-    ≡ get_or c.args.label.now (tail_of c.loop-at.graph.net (place_at c.loop-at.graph.net c.loop-at.at).arc) 0 + 1 =
-    ap (λ (r : ℕ). get_or c.args.label.now r 0 + 1) (sym next.leaves.tail) in
-    let less = below-top c.args.graph.now c.args.least c.args.t c.args.label.now c.args.router
-    c.requires.phase.levelled c.requires.apart in
-    let small : c.args.t < c.loop-at.graph.net.routers = rw net c.requires.t in
+    let leaves : get_or label router 0 + 1
+    ≡ get_or label (tail_of view.net (place_at view.net at).arc) 0 + 1 =
+    ap (λ (r : ℕ). get_or label r 0 + 1) (sym next.leaves.tail) in
+    let less = below-top start c.args.least c.args.t label router c.requires.phase.levelled c.requires.apart in
+    let small : c.args.t < view.net.routers = rw net c.requires.t in
     search rules
 
 pub send-returns-then-sent-limit-clause-phase : goal.send-returns-then-sent-limit-clause-phase
 send-returns-then-sent-limit-clause-phase g t c =
-    let next = is_next c.args.graph.now c.loop-at.graph c.args.least c.args.router c.args.t c.loop-at.sent c.args.label.now
-    c.args.cursor.now c.loop-at.cursor c.loop-at.at c.begin-end.result
-    c.loop-at.invariant.passing c.requires.phase c.requires.router (omega arith) (omega arith) c.begin-end.ensures.value in
-    let net = passing-net c.args.graph.now c.loop-at.graph c.args.least c.args.router c.args.t c.loop-at.sent c.args.label.now
-    c.args.cursor.now c.loop-at.cursor c.loop-at.at
-    c.loop-at.invariant.passing in
-    let start : begin_of c.loop-at.graph.net c.args.router ≤ get_or c.args.cursor.now c.args.router 0 =
-    rw net (c.requires.phase.come.above c.args.router c.requires.router) in
-    let more = passing-more c.args.graph.now c.loop-at.graph c.send_over-sent.new.graph c.args.least c.args.router c.args.t
-    c.loop-at.sent c.send_over-sent.result c.args.label.now c.args.cursor.now c.loop-at.cursor c.send_over-sent.new.cursor
-    c.loop-at.at c.loop-at.invariant.passing next start
-    c.send_over-sent.ensures.phase c.send_over-sent.ensures.sends c.send_over-sent.ensures.own in
-    passed-phase c.args.graph.now c.send_over-sent.new.graph c.args.least c.args.router c.args.t
-    (c.loop-at.sent + c.send_over-sent.result) c.args.label.now c.args.cursor.now c.send_over-sent.new.cursor c.loop-at.at
-    more c.requires.router c.requires.apart (omega arith) (omega (arith, c.begin-end.ensures.value))
+    let start = c.args.graph.now in
+    let view = c.loop-at.graph in
+    let label = c.args.label.now in
+    let first = c.args.cursor.now in
+    let router = c.args.router in
+    let at = c.loop-at.at in
+    let was = c.loop-at.invariant.passing in
+    let next = is_next start view c.args.least router c.args.t c.loop-at.sent label first c.loop-at.cursor at
+    c.begin-end.result was c.requires.phase c.requires.router (omega arith) (omega arith)
+    c.begin-end.ensures.value in
+    let after = c.send_over-sent.new.graph in
+    let new = c.send_over-sent.new.cursor in
+    let more = passing-more start view after c.args.least router c.args.t c.loop-at.sent c.send_over-sent.result label
+    first c.loop-at.cursor new at was next c.send_over-sent.ensures.phase c.send_over-sent.ensures.sends
+    c.send_over-sent.ensures.own in
+    passed-phase start after c.args.least router c.args.t (c.loop-at.sent + c.send_over-sent.result) label
+    first new at more c.requires.router c.requires.apart (omega arith) (omega (arith, c.begin-end.ensures.value))
 
 pub send-returns-then-sent-limit-clause-sends : goal.send-returns-then-sent-limit-clause-sends
 send-returns-then-sent-limit-clause-sends g t c =
-    let next = is_next c.args.graph.now c.loop-at.graph c.args.least c.args.router c.args.t c.loop-at.sent c.args.label.now
-    c.args.cursor.now c.loop-at.cursor c.loop-at.at c.begin-end.result
-    c.loop-at.invariant.passing c.requires.phase c.requires.router (omega arith) (omega arith) c.begin-end.ensures.value in
-    let net = passing-net c.args.graph.now c.loop-at.graph c.args.least c.args.router c.args.t c.loop-at.sent c.args.label.now
-    c.args.cursor.now c.loop-at.cursor c.loop-at.at
-    c.loop-at.invariant.passing in
-    let start : begin_of c.loop-at.graph.net c.args.router ≤ get_or c.args.cursor.now c.args.router 0 =
-    rw net (c.requires.phase.come.above c.args.router c.requires.router) in
-    let more = passing-more c.args.graph.now c.loop-at.graph c.send_over-sent.new.graph c.args.least c.args.router c.args.t
-    c.loop-at.sent c.send_over-sent.result c.args.label.now c.args.cursor.now c.loop-at.cursor c.send_over-sent.new.cursor
-    c.loop-at.at c.loop-at.invariant.passing next start
-    c.send_over-sent.ensures.phase c.send_over-sent.ensures.sends c.send_over-sent.ensures.own in
-    passed-sends c.args.graph.now c.send_over-sent.new.graph c.args.least c.args.router c.args.t
-    (c.loop-at.sent + c.send_over-sent.result) c.args.label.now c.args.cursor.now c.send_over-sent.new.cursor c.loop-at.at
-    more c.requires.router (omega arith)
+    let start = c.args.graph.now in
+    let view = c.loop-at.graph in
+    let label = c.args.label.now in
+    let first = c.args.cursor.now in
+    let router = c.args.router in
+    let at = c.loop-at.at in
+    let was = c.loop-at.invariant.passing in
+    let next = is_next start view c.args.least router c.args.t c.loop-at.sent label first c.loop-at.cursor at
+    c.begin-end.result was c.requires.phase c.requires.router (omega arith) (omega arith)
+    c.begin-end.ensures.value in
+    let after = c.send_over-sent.new.graph in
+    let new = c.send_over-sent.new.cursor in
+    let more = passing-more start view after c.args.least router c.args.t c.loop-at.sent c.send_over-sent.result label
+    first c.loop-at.cursor new at was next c.send_over-sent.ensures.phase c.send_over-sent.ensures.sends
+    c.send_over-sent.ensures.own in
+    passed-sends start after c.args.least router c.args.t (c.loop-at.sent + c.send_over-sent.result) label
+    first new at more c.requires.router (omega arith)
 
 pub send-returns-then-sent-limit-clause-cost : goal.send-returns-then-sent-limit-clause-cost
 send-returns-then-sent-limit-clause-cost g t c =
-    let next = is_next c.args.graph.now c.loop-at.graph c.args.least c.args.router c.args.t c.loop-at.sent c.args.label.now
-    c.args.cursor.now c.loop-at.cursor c.loop-at.at c.begin-end.result
-    c.loop-at.invariant.passing c.requires.phase c.requires.router (omega arith) (omega arith) c.begin-end.ensures.value in
-    let net = passing-net c.args.graph.now c.loop-at.graph c.args.least c.args.router c.args.t c.loop-at.sent c.args.label.now
-    c.args.cursor.now c.loop-at.cursor c.loop-at.at
-    c.loop-at.invariant.passing in
-    let start : begin_of c.loop-at.graph.net c.args.router ≤ get_or c.args.cursor.now c.args.router 0 =
-    rw net (c.requires.phase.come.above c.args.router c.requires.router) in
-    let more = passing-more c.args.graph.now c.loop-at.graph c.send_over-sent.new.graph c.args.least c.args.router c.args.t
-    c.loop-at.sent c.send_over-sent.result c.args.label.now c.args.cursor.now c.loop-at.cursor c.send_over-sent.new.cursor
-    c.loop-at.at c.loop-at.invariant.passing next start
-    c.send_over-sent.ensures.phase c.send_over-sent.ensures.sends c.send_over-sent.ensures.own in
-    last-costs c.args.graph.now c.send_over-sent.new.graph c.args.least c.args.router c.args.t
-    (c.loop-at.sent + c.send_over-sent.result) c.args.label.now c.args.cursor.now c.send_over-sent.new.cursor c.loop-at.at
-    c.args.steps.now c.send_over-sent.new.steps more c.requires.phase c.requires.router c.requires.apart
-    (pays-place (get_or c.args.label.now c.args.t 0 - (get_or c.args.label.now c.args.router 0 + 1)) (sum c.args.cursor.now)
-    (sum c.loop-at.cursor) (sum c.send_over-sent.new.cursor) (get_or c.args.cursor.now c.args.router 0) c.loop-at.at
-    c.args.steps.now c.loop-at.steps c.send_over-sent.new.steps c.loop-at.invariant.paid c.send_over-sent.ensures.cost)
+    let start = c.args.graph.now in
+    let view = c.loop-at.graph in
+    let label = c.args.label.now in
+    let first = c.args.cursor.now in
+    let router = c.args.router in
+    let at = c.loop-at.at in
+    let was = c.loop-at.invariant.passing in
+    let next = is_next start view c.args.least router c.args.t c.loop-at.sent label first c.loop-at.cursor at
+    c.begin-end.result was c.requires.phase c.requires.router (omega arith) (omega arith)
+    c.begin-end.ensures.value in
+    let after = c.send_over-sent.new.graph in
+    let new = c.send_over-sent.new.cursor in
+    let more = passing-more start view after c.args.least router c.args.t c.loop-at.sent c.send_over-sent.result label
+    first c.loop-at.cursor new at was next c.send_over-sent.ensures.phase c.send_over-sent.ensures.sends
+    c.send_over-sent.ensures.own in
+    last-costs start after c.args.least router c.args.t (c.loop-at.sent + c.send_over-sent.result) label
+    first new at c.args.steps.now c.send_over-sent.new.steps more c.requires.phase c.requires.router
+    c.requires.apart
+    (pays-place (get_or label c.args.t 0 - (get_or label router 0 + 1)) (sum first) (sum c.loop-at.cursor) (sum new)
+    (get_or first router 0) at c.args.steps.now c.loop-at.steps c.send_over-sent.new.steps c.loop-at.invariant.paid
+    c.send_over-sent.ensures.cost)
 
 pub send-loop-at-preserved : goal.send-loop-at-preserved
 send-loop-at-preserved g t c =
-    let next = is_next c.args.graph.now c.loop-at.graph c.args.least c.args.router c.args.t c.loop-at.sent c.args.label.now
-    c.args.cursor.now c.loop-at.cursor c.loop-at.at c.begin-end.result
-    c.loop-at.invariant.passing c.requires.phase c.requires.router (omega arith) (omega arith) c.begin-end.ensures.value in
-    let net = passing-net c.args.graph.now c.loop-at.graph c.args.least c.args.router c.args.t c.loop-at.sent c.args.label.now
-    c.args.cursor.now c.loop-at.cursor c.loop-at.at
-    c.loop-at.invariant.passing in
-    let start : begin_of c.loop-at.graph.net c.args.router ≤ get_or c.args.cursor.now c.args.router 0 =
-    rw net (c.requires.phase.come.above c.args.router c.requires.router) in
-    let more = passing-more c.args.graph.now c.loop-at.graph c.send_over-sent.new.graph c.args.least c.args.router c.args.t
-    c.loop-at.sent c.send_over-sent.result c.args.label.now c.args.cursor.now c.loop-at.cursor c.send_over-sent.new.cursor
-    c.loop-at.at c.loop-at.invariant.passing next start
-    c.send_over-sent.ensures.phase c.send_over-sent.ensures.sends c.send_over-sent.ensures.own in
+    let start = c.args.graph.now in
+    let view = c.loop-at.graph in
+    let label = c.args.label.now in
+    let first = c.args.cursor.now in
+    let router = c.args.router in
+    let at = c.loop-at.at in
+    let was = c.loop-at.invariant.passing in
+    let next = is_next start view c.args.least router c.args.t c.loop-at.sent label first c.loop-at.cursor at
+    c.begin-end.result was c.requires.phase c.requires.router (omega arith) (omega arith)
+    c.begin-end.ensures.value in
+    let after = c.send_over-sent.new.graph in
+    let new = c.send_over-sent.new.cursor in
+    let more = passing-more start view after c.args.least router c.args.t c.loop-at.sent c.send_over-sent.result label
+    first c.loop-at.cursor new at was next c.send_over-sent.ensures.phase c.send_over-sent.ensures.sends
+    c.send_over-sent.ensures.own in
     let short : c.send_over-sent.result < c.args.limit - c.loop-at.sent =
     omega (arith, c.send_over-sent.ensures.most, c.if-sent-limit.false) in
-    let same : c.send_over-sent.new.graph.net ≡ c.loop-at.graph.net =
-    ap (λ (v : ResidualView). v.net) c.send_over-sent.ensures.sends.same in
-    let blocked = subst (λ (n : Net). IsBlocked c.send_over-sent.new.graph c.args.least c.args.t c.args.label.now
-    c.send_over-sent.new.cursor (place_at n c.loop-at.at).arc) (sym same) (c.send_over-sent.ensures.blocked short) in
+    let same : after.net ≡ view.net = ap (λ (v : ResidualView). v.net) c.send_over-sent.ensures.sends.same in
+    let blocked = subst (λ (n : Net). IsBlocked after c.args.least c.args.t label new (place_at n at).arc) (sym same)
+    (c.send_over-sent.ensures.blocked short) in
     record {
-      passing = passing-on c.args.graph.now c.send_over-sent.new.graph c.args.least c.args.router c.args.t
-          (c.loop-at.sent + c.send_over-sent.result) c.args.label.now c.args.cursor.now c.send_over-sent.new.cursor c.loop-at.at
-          more blocked;
+      passing = passing-on start after c.args.least router c.args.t (c.loop-at.sent + c.send_over-sent.result) label
+          first new at more blocked;
       some = omega arith;
-      paid =
-          pays-place (get_or c.args.label.now c.args.t 0 - (get_or c.args.label.now c.args.router 0 + 1)) (sum c.args.cursor.now)
-          (sum c.loop-at.cursor) (sum c.send_over-sent.new.cursor) (get_or c.args.cursor.now c.args.router 0) c.loop-at.at
-          c.args.steps.now c.loop-at.steps c.send_over-sent.new.steps c.loop-at.invariant.paid c.send_over-sent.ensures.cost;
+      paid = pays-place (get_or label c.args.t 0 - (get_or label router 0 + 1)) (sum first) (sum c.loop-at.cursor) (sum new)
+          (get_or first router 0) at c.args.steps.now c.loop-at.steps c.send_over-sent.new.steps c.loop-at.invariant.paid
+          c.send_over-sent.ensures.cost;
     }
 
 pub send-returns-clause-phase : goal.send-returns-clause-phase
 send-returns-clause-phase g t c =
-    let bound : get_or c.args.cursor.now c.args.router 0 ≤ c.begin-end.result =
-    omega (arith, c.requires.phase.come.below c.args.router c.requires.router, c.begin-end.ensures.value) in
-    let last : c.loop-at.at ≡ c.begin-end.result = omega (arith, c.loop-at.auto.at-end bound) in
-    rw (← last) (passed-phase c.args.graph.now c.loop-at.graph c.args.least c.args.router c.args.t c.loop-at.sent c.args.label.now
-    c.args.cursor.now c.loop-at.cursor c.loop-at.at
-    c.loop-at.invariant.passing c.requires.router c.requires.apart (omega arith) (omega (arith, c.begin-end.ensures.value)))
+    let start = c.args.graph.now in
+    let view = c.loop-at.graph in
+    let label = c.args.label.now in
+    let first = c.args.cursor.now in
+    let router = c.args.router in
+    let at = c.loop-at.at in
+    let was = c.loop-at.invariant.passing in
+    let bound : get_or first router 0 ≤ c.begin-end.result =
+    omega (arith, c.requires.phase.come.below router c.requires.router, c.begin-end.ensures.value) in
+    let last : at ≡ c.begin-end.result = omega (arith, c.loop-at.auto.at-end bound) in
+    rw (← last) (passed-phase start view c.args.least router c.args.t c.loop-at.sent label first
+    c.loop-at.cursor at was c.requires.router c.requires.apart (omega arith)
+    (omega (arith, c.begin-end.ensures.value)))
 
 pub send-returns-clause-sends : goal.send-returns-clause-sends
 send-returns-clause-sends g t c =
-    let bound : get_or c.args.cursor.now c.args.router 0 ≤ c.begin-end.result =
-    omega (arith, c.requires.phase.come.below c.args.router c.requires.router, c.begin-end.ensures.value) in
-    let last : c.loop-at.at ≡ c.begin-end.result = omega (arith, c.loop-at.auto.at-end bound) in
-    rw (← last) (passed-sends c.args.graph.now c.loop-at.graph c.args.least c.args.router c.args.t c.loop-at.sent c.args.label.now
-    c.args.cursor.now c.loop-at.cursor c.loop-at.at
-    c.loop-at.invariant.passing c.requires.router (omega arith))
+    let start = c.args.graph.now in
+    let view = c.loop-at.graph in
+    let label = c.args.label.now in
+    let first = c.args.cursor.now in
+    let router = c.args.router in
+    let at = c.loop-at.at in
+    let was = c.loop-at.invariant.passing in
+    let bound : get_or first router 0 ≤ c.begin-end.result =
+    omega (arith, c.requires.phase.come.below router c.requires.router, c.begin-end.ensures.value) in
+    let last : at ≡ c.begin-end.result = omega (arith, c.loop-at.auto.at-end bound) in
+    rw (← last) (passed-sends start view c.args.least router c.args.t c.loop-at.sent label first
+    c.loop-at.cursor at was c.requires.router (omega arith))
 
 pub send-returns-clause-cost : goal.send-returns-clause-cost
 send-returns-clause-cost g t c =
-    let bound : get_or c.args.cursor.now c.args.router 0 ≤ c.begin-end.result =
-    omega (arith, c.requires.phase.come.below c.args.router c.requires.router, c.begin-end.ensures.value) in
-    let last : c.loop-at.at ≡ c.begin-end.result = omega (arith, c.loop-at.auto.at-end bound) in
-    rw (← last) (passed-costs c.args.graph.now c.loop-at.graph c.args.least c.args.router c.args.t c.loop-at.sent c.args.label.now
-    c.args.cursor.now c.loop-at.cursor c.loop-at.at
-    c.args.steps.now c.loop-at.steps c.loop-at.invariant.passing c.requires.phase c.requires.router c.requires.apart
+    let start = c.args.graph.now in
+    let view = c.loop-at.graph in
+    let label = c.args.label.now in
+    let first = c.args.cursor.now in
+    let router = c.args.router in
+    let at = c.loop-at.at in
+    let was = c.loop-at.invariant.passing in
+    let bound : get_or first router 0 ≤ c.begin-end.result =
+    omega (arith, c.requires.phase.come.below router c.requires.router, c.begin-end.ensures.value) in
+    let last : at ≡ c.begin-end.result = omega (arith, c.loop-at.auto.at-end bound) in
+    rw (← last) (passed-costs start view c.args.least router c.args.t c.loop-at.sent label first
+    c.loop-at.cursor at c.args.steps.now c.loop-at.steps was c.requires.phase c.requires.router c.requires.apart
     c.loop-at.invariant.paid)

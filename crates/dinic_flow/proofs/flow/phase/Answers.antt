@@ -22,7 +22,11 @@ overflow_add-result g c =
     let more : IsFlow before.net c.args.s c.args.t after.flow (c.args.value + c.send.result) =
     flow-more before.net c.args.s c.args.t before.flow after.flow c.args.value c.send.result c.requires.flow
     c.send.ensures.sends.sends (rw net at c.send.ensures.phase.sound.within) in
-    omega (arith, flow-small before.net c.args.s c.args.t after.flow (c.args.value + c.send.result) c.requires.sound.limits c.requires.s more)
+    omega (
+      arith,
+      flow-small before.net c.args.s c.args.t after.flow (c.args.value + c.send.result)
+          c.requires.sound.limits c.requires.s more,
+    )
 
 pub returns-clause-farther : goal.returns-clause-farther
 returns-clause-farther g c =
@@ -32,7 +36,8 @@ returns-clause-farther g c =
     let more : IsFlow before.net c.args.s c.args.t after.flow (c.args.value + c.send.result) =
     flow-more before.net c.args.s c.args.t before.flow after.flow c.args.value c.send.result c.requires.flow
     c.send.ensures.sends.sends (rw net at c.send.ensures.phase.sound.within) in
-    let small = flow-small before.net c.args.s c.args.t after.flow (c.args.value + c.send.result) c.requires.sound.limits c.requires.s more in
+    let small = flow-small before.net c.args.s c.args.t after.flow (c.args.value + c.send.result)
+    c.requires.sound.limits c.requires.s more in
     farther after c.args.least c.args.s c.args.t c.args.label.now c.send.new.cursor c.send.ensures.phase
     c.requires.start c.requires.flow.differ_ends (rw net c.requires.s)
     (c.send.ensures.spent (omega (arith, small)))
@@ -46,4 +51,5 @@ returns-clause-steps g c =
     c.send.ensures.phase.sound c.send.ensures.phase (omega (arith, c.requires.cursor, ap (λ (n : Net). n.routers) net))
     (λ r small. rw net (c.copy_begins.ensures.begins r (rw net at small))) in
     phase-pays (get_or c.args.label.now c.args.t 0 - 1) (sum c.copy_begins.new.cursor) (sum c.send.new.cursor)
-    (arc_count before.net) c.args.steps.now c.send.new.steps (rw net at moved) (rw c.requires.start at c.send.ensures.cost)
+    (arc_count before.net) c.args.steps.now c.send.new.steps (rw net at moved)
+    (rw c.requires.start at c.send.ensures.cost)
