@@ -1,6 +1,6 @@
 -- What the lines of a text name stays within the limits of a network.
-use Rattle.std.proofs.Common.{◌≡◌, ℕ, ◌<◌, ◌≤◌, List, [], ◌∷◌, ◌++◌, true, false, is_some}
-use Rattle.std.proofs.Common.{Option, Some, None, Ok, IsTrue, length, nat_lt, nat_le, codes, subst}
+use Rattle.std.proofs.Common.{◌≡◌, ℕ, ◌<◌, ◌≤◌, List, [], ◌∷◌, ◌++◌, true, false, OnOk}
+use Rattle.std.proofs.Common.{Option, Some, None, Result, Ok, Err, IsTrue, length, nat_lt, nat_le, codes, subst}
 use Rattle.std.proofs.Common.{inl, inr, arith, length-append}
 use Rattle.std.specs.List.{All, list_any}
 use Rattle.std.specs.Str.{bytes_eq}
@@ -14,8 +14,8 @@ use Rattle.cut_model.specs.declared.network.Link.{Link}
 use Rattle.cut_model.specs.Net.{IsLink}
 use Rattle.network_text.specs.Texts.{Draft, with_name, with_ends, link_between, with_link}
 use Rattle.network_text.specs.Texts.{with_capacity, with_names, router_line, link_line, with_words, with_line}
-use Rattle.network_text.specs.Readings.{IsWithinLimits, KeepsLimits}
-use Rattle.network_text.specs.declared.fault.TextFault.{TextFault}
+use Rattle.network_text.specs.Readings.{Adds, IsWithinLimits}
+use Rattle.network_text.specs.declared.fault.TextKind.{TextKind}
 use Rattle.network_text.proofs.Places.{length-with_name, first-below, second-below}
 
 -- A draft within the limits.
@@ -163,20 +163,8 @@ with_words-small old new (word ∷ words) h small =
       ]
     ]
 
--- A line keeps the limits.
-pub with_line-small : (old new : Draft) (line : List ℕ) → with_line old line ≡ Ok new → IsSmall old → IsSmall new
-with_line-small old new line h small =
-    elim (cases_Bool (is_passed line)) [
-      | inl passed ↦
-          let same : old ≡ new = (let k = rw passed at h in cc) in subst (λ (d : Draft). IsSmall d) same small
-      | inr counts ↦ elim (cases_Bool (is_long line)) [
-        | inl long ↦ absurd (let k = rw (counts, long) at h in cc)
-        | inr short ↦ with_words-small old new (line_words line) (rw (counts, short) at h) small
-      ]
-    ]
-
--- What was gathered is within the limits until something is noted.
-pub unnoted-small : (noted : Option TextFault) (draft : Draft) → is_some noted ≡ false → KeepsLimits noted draft
-    → IsSmall draft
-unnoted-small None draft e limits = limits
-unnoted-small (Some fault) draft e limits = absurd (cc)
+-- So a line keeps the limits where its words were added.
+pub added-small : (old new : Draft) (words : List (List ℕ)) (result : Result (Unit {0}) TextKind)
+    → Adds (with_words old words) result new → OnOk result (IsSmall old → IsSmall new)
+added-small old new words (Ok done) said = with_words-small old new words said
+added-small old new words (Err kind) said = tt

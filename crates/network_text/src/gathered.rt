@@ -67,6 +67,8 @@ impl Gathered {
     /// Takes in a line. After an error what was gathered means nothing.
     pub(crate) fn add_line(&mut self, line: &[u8]) -> Result<(), TextKind>
         ensures adds { Adds (with_line self.old line.now) result self.new }
+        ensures limits { OnOk result (IsWithinLimits self.old.names self.old.links
+            → IsWithinLimits self.new.names self.new.links) }
     {
         if is_passed(line) {
             return Ok(());

@@ -1,6 +1,6 @@
-//! One small text through the calls that can want memory.
+//! Small texts through the calls that can want memory: with ample memory each answers something else.
 
-use crate::{Fed, Reader, write_sheet};
+use crate::{Fed, Reader, TextFault, TextKind, write_sheet};
 use std::test::Fail;
 use wires::MemorySink;
 
@@ -15,6 +15,53 @@ fn small_text(rt: HostRuntime) -> Result<(), Fail> {
     assert_eq!(rt; sheet.number_of(b"Right"), None);
     assert_eq!(rt; sheet.net().routers(), 2);
     assert_eq!(rt; sheet.name_of(0), b"left".as_slice());
+    Ok(())
+}
+
+#[test]
+fn first_of_two_faults(rt: HostRuntime) -> Result<(), Fail> {
+    let mut reader = Reader::begin(rt.alloc())?;
+    assert_eq!(rt; reader.line(b"router left"), Fed::More);
+    assert_eq!(rt; reader.line(b"link left right/ 7"), Fed::More);
+    assert_eq!(rt; reader.line(b"router"), Fed::More);
+    assert_eq!(rt; reader.line(b"router right"), Fed::More);
+    assert_eq!(rt; reader.line(b"END"), Fed::Ended);
+    assert_eq!(rt;
+        reader.close().err(),
+        Some(TextFault {
+            kind: TextKind::BadName,
+            line: 2
+        })
+    );
+    Ok(())
+}
+
+#[test]
+fn no_router(rt: HostRuntime) -> Result<(), Fail> {
+    let mut reader = Reader::begin(rt.alloc())?;
+    assert_eq!(rt; reader.line(b"# nothing"), Fed::More);
+    assert_eq!(rt; reader.line(b"END"), Fed::Ended);
+    assert_eq!(rt;
+        reader.close().err(),
+        Some(TextFault {
+            kind: TextKind::NoTerminal,
+            line: 2
+        })
+    );
+    Ok(())
+}
+
+#[test]
+fn ended_early(rt: HostRuntime) -> Result<(), Fail> {
+    let mut reader = Reader::begin(rt.alloc())?;
+    assert_eq!(rt; reader.line(b"router left"), Fed::More);
+    assert_eq!(rt;
+        reader.close().err(),
+        Some(TextFault {
+            kind: TextKind::EndedEarly,
+            line: 2
+        })
+    );
     Ok(())
 }
 
