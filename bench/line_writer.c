@@ -5,7 +5,7 @@
 #include <string.h>
 #include <unistd.h>
 
-static const char reply[] = "@0 NO 9\n";
+static const char reply[] = "@0 NO 6\n";
 static char buffer[1 << 20];
 
 static int write_all(const char *text, size_t size) {

@@ -32,19 +32,6 @@ try a_word_with_a_line_feed 1 "$room/nothing" "$first/stdin" "plan
 try the_first_example 0 "$first/stdout" examples/first.txt plan
 try the_backbone_example 0 examples/backbone.replies examples/backbone.txt plan
 
-# The first path, with a line of a million bytes before its end and another as the last line.
-{
-    sed '/^BYE$/d' "$first/stdin"
-    head -c 1000000 /dev/zero | tr '\0' X
-    printf '\nCUT a b\n'
-    head -c 1000000 /dev/zero | tr '\0' '#'
-} >"$room/stdin"
-{
-    sed '/BYE$/d' "$first/stdout"
-    printf '%s\n' '@1 NO 9' '@1 CUT 5 side a' '@1 NO 9'
-} >"$room/wanted"
-try lines_of_a_million_bytes 0 "$room/wanted" "$room/stdin" plan
-
 # Each request is sent when the reply to the one before has come.
 converse() {
     mkfifo "$room/to" "$room/from"
@@ -65,18 +52,6 @@ END' 'CUT b a' 'X' 'BYE'; do
     exec 3>&- 4<&-
     return "$status"
 }
-printf '%s\n' '@1 LOADED routers 2 links 1' '@1 CUT 5 side b' '@1 NO 9' '@1 BYE' >"$room/wanted"
+printf '%s\n' '@1 LOADED routers 2 links 1' '@1 CUT 5 side b' '@1 NO 1' '@1 BYE' >"$room/wanted"
 converse
 judge a_reply_comes_before_the_next_request_is_sent "$?" 0 "$room/wanted"
-
-# The same bytes in pieces, as a slow writer sends them.
-for piece in 'LO' 'AD
-li' 'nk a b 5
-EN' 'D
-C' 'UT a b' '
-BYE
-'; do
-    printf '%s' "$piece"
-    sleep 0.05
-done | timeout -k 5 "$seconds" "$program" plan >"$room/stdout" 2>"$room/stderr"
-judge input_in_pieces "$?" 0 "$first/stdout"

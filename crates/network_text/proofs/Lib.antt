@@ -1,4 +1,14 @@
+pub mod Adding
+pub mod Examples
 pub mod Finding
+pub mod Limits
+pub mod Made
 pub mod Paddings
 pub mod Places
+pub mod PutLines
+pub mod Rereading
+pub mod RereadingDrafts
+pub mod RereadingLines
+pub mod RereadingNames
 pub mod SameNames
+pub mod WritingExamples

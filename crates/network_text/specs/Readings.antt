@@ -1,5 +1,5 @@
 -- What a reader keeps.
-use Rattle.std.specs.Prelude.{◌≡◌, ℕ, ◌+◌, ◌≤◌, ◌⊎◌, List, Bool, length, All, IsTrue, Result, Ok, Err, Some, None}
+use Rattle.std.specs.Prelude.{◌≡◌, ℕ, ◌+◌, ◌^◌, ◌≤◌, ◌⊎◌, List, Bool, length, All, IsTrue, Result, Ok, Err, Some, None}
 use Rattle.std.specs.declared.option.Option.{Option}
 use Rattle.text_forms.specs.Names.{is_name}
 use Rattle.cut_model.specs.Net.{IsLink}
@@ -60,3 +60,8 @@ draft_at (Some fault) draft = Err fault
 abbrev pub KeepsLimits : Option TextFault → Draft → Type 0
 KeepsLimits None draft = IsWithinLimits draft.names draft.links
 KeepsLimits (Some fault) draft = Unit {0}
+
+-- A reader was given at most 2^31 lines, and what counts is within the limits.
+pub record KeepsBounds (lines : ℕ) (noted : Option TextFault) (draft : Draft) : Type 0 where
+  pub few_lines : lines ≤ 2 ^ 31
+  pub limits : KeepsLimits noted draft

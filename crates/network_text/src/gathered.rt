@@ -1,10 +1,10 @@
 //! The names and links of a text so far.
 
-ghost use Rattle.std.specs.Prelude.{◌≡◌, ◌⊎◌, [], true};
+ghost use Rattle.std.specs.Prelude.{◌≡◌, ◌⊎◌, ◌<◌, [], true, length, IfErr, IfOk, OnOk};
 ghost use Rattle.text_forms.specs.Words.{words_of};
 ghost use Rattle.network_text.specs.Readings.{Adds, IsWant, IsWithinLimits};
-ghost use Rattle.network_text.specs.Texts.{link_line, router_line, whole_verdict, with_line, with_link};
-ghost use Rattle.network_text.specs.Texts.{with_name, with_names, with_words};
+ghost use Rattle.network_text.specs.Texts.{link_line, place_of, router_line, whole_verdict, with_line};
+ghost use Rattle.network_text.specs.Texts.{with_link, with_name, with_names, with_words};
 
 use crate::fault::{TextFault, TextKind};
 use crate::name::Name;
@@ -26,6 +26,17 @@ const MOST_LINKS: usize = 8192;
 
 /// The greatest capacity of a link.
 const MOST_CAPACITY: u64 = 1_000_000_000_000;
+
+/// The number of a router among the names, which a new name joins at their end.
+fn number_in(names: &mut IndexSet<Name>, name: Name) -> Result<usize, TextKind>
+    ensures named { OnOk result (names.new.keys ≡ with_name names.old.keys name) }
+    ensures number { IfOk result (λ number. number ≡ place_of names.new.keys name) }
+    ensures below { IfOk result (λ number. number < length names.new.keys) }
+    ensures memory { IfErr result (λ kind. kind ≡ TextKind.Memory) }
+{
+    let (number, _) = names.insert_full(name)?;
+    Ok(number)
+}
 
 /// The names and links of a text so far, in order of appearance. Contracts see a `Draft`.
 #[derive(Drop)]
@@ -56,6 +67,8 @@ impl Gathered {
     /// Takes in a line. After an error what was gathered means nothing.
     pub(crate) fn add_line(&mut self, line: &[u8]) -> Result<(), TextKind>
         ensures adds { Adds (with_line self.old line.now) result self.new }
+        ensures limits { OnOk result (IsWithinLimits self.old.names self.old.links
+            → IsWithinLimits self.new.names self.new.links) }
     {
         if is_passed(line) {
             return Ok(());
@@ -97,7 +110,7 @@ impl Gathered {
     fn add_router(&mut self, name: Name) -> Result<(), TextKind>
         ensures adds { Adds (with_names (with_name self.old.names name) self.old.links) result self.new }
     {
-        self.names.insert_full(name)?;
+        number_in(&mut self.names, name)?;
         if self.names.len() > MOST_ROUTERS {
             return Err(TextKind::TooManyRouters);
         }
@@ -119,8 +132,8 @@ impl Gathered {
     fn add_link(&mut self, first: Name, second: Name, cap: u64) -> Result<(), TextKind>
         ensures adds { Adds (with_link self.old first second cap) result self.new }
     {
-        let (a, _) = self.names.insert_full(first)?;
-        let (b, _) = self.names.insert_full(second)?;
+        let a = number_in(&mut self.names, first)?;
+        let b = number_in(&mut self.names, second)?;
         if cap > MOST_CAPACITY {
             return Err(TextKind::CapTooLarge);
         }

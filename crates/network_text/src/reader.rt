@@ -34,7 +34,7 @@ pub struct Reader {
 }
 
 impl Model for Reader {
-    ghost use Rattle.network_text.specs.Readings.{Reading, draft_at, KeepsLimits};
+    ghost use Rattle.network_text.specs.Readings.{Reading, draft_at, KeepsBounds};
 
     ghost Value = { Reading };
 
@@ -43,7 +43,7 @@ impl Model for Reader {
       ended = reader.ended;
     } };
 
-    ghost invariant = { λ reader. KeepsLimits reader.noted reader.gathered };
+    ghost invariant = { λ reader. KeepsBounds reader.lines reader.noted reader.gathered };
 }
 
 impl Reader {
@@ -99,7 +99,6 @@ impl Reader {
     /// The first thing that went wrong. Where nothing did, `EndedEarly` where no END came, and
     /// `NoTerminal` where END came and no router was named. `Memory` may come in place of a sheet.
     pub fn close(self) -> Result<Sheet, TextFault>
-        requires few { self.progress.lines < 2 ^ 31 }
         ensures { Closes self result }
     {
         let Reader {

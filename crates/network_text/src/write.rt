@@ -3,6 +3,7 @@
 ghost use Rattle.std.specs.Prelude.{◌≡◌, ◌<◌, length, Ok};
 ghost use Rattle.std.specs.Prelude.{map};
 ghost use Rattle.std.specs.List.{concat};
+ghost use Rattle.network_text.specs.Sheets.{IsSheet};
 ghost use Rattle.network_text.specs.Writing.{link_text, router_text, sheet_text, verdict_in};
 ghost use Rattle.wires.specs.Puts.{Puts};
 
@@ -12,7 +13,8 @@ use itoa::Buffer;
 use wires::{Failed, Sink, put_pieces};
 
 /// Writes the sheet as a network text that has this sheet again: a `router` line for each router in
-/// number order, a `link` line for each link in order, and END. It takes no memory.
+/// number order, a `link` line for each link in order, and END. It takes no memory and looks at
+/// each router and each link once.
 ///
 /// # Errors
 /// [`Failed`] where a put failed. A front of the text was written then.
@@ -30,6 +32,7 @@ pub fn write_sheet<K: Sink>(sheet: &Sheet, sink: &mut K) -> Result<(), Failed>
 fn write_routers<K: Sink>(sheet: &Sheet, sink: &mut K) -> Result<(), Failed>
     ensures puts { Puts K.written K.write_faults K.beside_sink K.takes sink.old sink.new result
         (concat (map router_text sheet.now.names)) }
+    ensures sheet { IsSheet sheet.now.names sheet.now.net }
 {
     for router in 0..sheet.net().routers() {
         put_pieces(&[b"router ", sheet.name_of(router), b"\n"], sink)?;

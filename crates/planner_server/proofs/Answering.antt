@@ -1,11 +1,13 @@
 -- How replies to stretches of items join, and stay right while records are added.
-use Rattle.std.proofs.Common.{◌≡◌, ℕ, zero, suc, ◌<◌, ◌≤◌, List, [], ◌∷◌, ◌++◌, length, None, Some, refl, sym, ap}
+use Rattle.std.proofs.Common.{◌≡◌, ℕ, zero, suc, ◌<◌, ◌≤◌, List, [], ◌∷◌, ◌++◌, length, Some, Result, Ok, Err, refl, sym, ap}
 use Rattle.std.proofs.Common.{◌∙◌, arith, append_assoc, subst, inl, inr, length-append}
 use Rattle.std.proofs.lemmas.List.{append-nil}
 use Rattle.std.specs.declared.option.Option.{Option}
 use Rattle.std.specs.Prelude.{slice_get}
 use Rattle.network_text.specs.Sheets.{SheetView}
-use Rattle.planner_server.specs.Answers.{record_at, IsReply, LoadStep, Step, Alone, AloneTo, verdict_of}
+use Rattle.network_text.specs.Texts.{verdict_of}
+use Rattle.network_text.specs.declared.fault.TextFault.{TextFault}
+use Rattle.planner_server.specs.Answers.{record_at, IsReply, LoadStep, Step, Alone, AloneTo}
 use Rattle.planner_server.specs.Modes.{Grows, Gives}
 use Rattle.text_forms.specs.Items.{Item, Ask, Load, Bye}
 
@@ -53,11 +55,11 @@ Step-within records seen (Ask line) reply next step low = omega (arith, step.0)
 Step-within records seen Bye reply next step low = omega (arith, step.0)
 Step-within records seen (Load text whole) reply next step low = of_load (verdict_of text whole) step
   where
-    of_load : (verdict : Option SheetView) → LoadStep records seen verdict reply next → next ≤ length records
-    of_load None step = omega (arith, step.0)
-    of_load (Some sheet) (inl step) = omega (arith, step.0, slice_get-within records seen sheet step.1)
-    of_load (Some sheet) (inr (inl step)) = omega (arith, step.0)
-    of_load (Some sheet) (inr (inr step)) = omega (arith, step.0)
+    of_load : (verdict : Result SheetView TextFault) → LoadStep records seen verdict reply next → next ≤ length records
+    of_load (Err fault) step = omega (arith, step.0)
+    of_load (Ok sheet) (inl step) = omega (arith, step.0, slice_get-within records seen sheet step.1)
+    of_load (Ok sheet) (inr (inl step)) = omega (arith, step.0)
+    of_load (Ok sheet) (inr (inr step)) = omega (arith, step.0)
 
 -- a step stays right where records are added behind
 Step-grown : (records more : List SheetView) (seen : ℕ) (item : Item) (reply : List ℕ) (next : ℕ)
@@ -70,12 +72,12 @@ Step-grown records more seen (Ask line) reply next step low = (
 Step-grown records more seen Bye reply next step low = step
 Step-grown records more seen (Load text whole) reply next step low = of_load (verdict_of text whole) step
   where
-    of_load : (verdict : Option SheetView) → LoadStep records seen verdict reply next
+    of_load : (verdict : Result SheetView TextFault) → LoadStep records seen verdict reply next
         → LoadStep (records ++ more) seen verdict reply next
-    of_load None step = step
-    of_load (Some sheet) (inl step) =
+    of_load (Err fault) step = step
+    of_load (Ok sheet) (inl step) =
         inl (step.0, slice_get-grown records more seen (slice_get-within records seen sheet step.1) ∙ step.1, step.2)
-    of_load (Some sheet) (inr step) = inr step
+    of_load (Ok sheet) (inr step) = inr step
 
 -- and so do the steps of a stretch of items
 AloneTo-grown : (records more : List SheetView) (seen : ℕ) (items : List Item) (text : List ℕ) (last : ℕ)

@@ -11,7 +11,7 @@ use Rattle.line_reader.specs.Held.{ahead, IsOpen}
 use Rattle.line_reader.specs.Passing.{Goes, Passes}
 use Rattle.network_text.specs.Sheets.{SheetView}
 use Rattle.planner_server.specs.Answers.{Alone}
-use Rattle.planner_server.specs.Modes.{next_text, gives, Gives, closing, IsQuiet, IsByeLine}
+use Rattle.planner_server.specs.Modes.{next_text, gives, Gives, IsQuiet, IsByeLine}
 use Rattle.planner_server.specs.Sessions.{SoFar, Ends, Breaks, IsComplete, EndsWhole}
 use Rattle.planner_server.proofs.Answering.{Alone-on, AloneTo-grow, Gives-join, grows_none}
 use Rattle.planner_server.proofs.Serving.{goes_on, line_items, last_items, end_items, stops_items, bye_items}
@@ -126,21 +126,21 @@ module _ (left0 written0 left written now after_left : Option (List ℕ)) (ended
       (subst (λ (f : List ℕ). Gives records (gives open_text f) out after) is given) (taken_line line goes) wrote
 
   -- the input ended between two lines, and what is owed then was written
-  pub end_whole : Passes held left held2 after_left [] → IsOver met after_left
-      → Gives records (items_from true open_text []) (closing open_text (length records)) after
-      → Appends written now (closing open_text (length records)) → EndsWhole left0 written0 after_left met now after
-  end_whole passes over given wrote =
-      ends_by (IsComplete met after_left) s.bytes (closing open_text (length records)) (items_from true open_text [])
+  pub end_whole : (owed : List ℕ) → Passes held left held2 after_left [] → IsOver met after_left
+      → Gives records (items_from true open_text []) owed after
+      → Appends written now owed → EndsWhole left0 written0 after_left met now after
+  end_whole owed passes over given wrote =
+      ends_by (IsComplete met after_left) s.bytes owed (items_from true open_text [])
       (ap (λ e. items_of e s.bytes) over.0 ∙ end_items s.bytes s.text records open_text s.serves) given
       (subst (Consumes left0 after_left) (append-nil s.bytes) (taken_part [] passes)) wrote (inr over)
 
   -- and a part of it was written
-  pub end_breaks : (count : ℕ) → Passes held left held2 after_left [] → IsOver met after_left
-      → Gives records (items_from true open_text []) (closing open_text (length records)) after
-      → Appends written now (take count (closing open_text (length records)))
+  pub end_breaks : (owed : List ℕ) (count : ℕ) → Passes held left held2 after_left [] → IsOver met after_left
+      → Gives records (items_from true open_text []) owed after
+      → Appends written now (take count owed)
       → Breaks left0 written0 after_left met now after
-  end_breaks count passes over given wrote =
-      breaks_by s.bytes (closing open_text (length records)) (items_from true open_text []) [] count
+  end_breaks owed count passes over given wrote =
+      breaks_by s.bytes owed (items_from true open_text []) [] count
       (ap (λ e. items_of e s.bytes) over.0 ∙ end_items s.bytes s.text records open_text s.serves
       ∙ sym (append-nil (s.serves.done ++ items_from true open_text [])))
       (ends-one open_text) given (subst (Consumes left0 after_left) (append-nil s.bytes) (taken_part [] passes)) wrote
@@ -178,16 +178,15 @@ module _ (left0 written0 left written now after_left : Option (List ℕ)) (ended
       (subst (λ (is : List Item). P (s.bytes ++ line) is) (sym items) (why count s.serves.quiet))
 
   -- the last line, which has no line feed, was answered, and what is owed then was written
-  pub last_line_ends : (mid : List SheetView) (line front out : List ℕ) → Passes held left held2 after_left line
+  pub last_line_ends : (mid : List SheetView) (line front out owed : List ℕ) → Passes held left held2 after_left line
       → 0 < length line
       → front ≡ front_of line → IsOver met after_left → IsQuiet open_text front
       → Gives records (gives open_text front) out mid
-      → Gives mid (items_from true (next_text open_text front) [])
-      (closing (next_text open_text front) (length mid)) after
-      → Appends written now (out ++ closing (next_text open_text front) (length mid))
+      → Gives mid (items_from true (next_text open_text front) []) owed after
+      → Appends written now (out ++ owed)
       → EndsWhole left0 written0 after_left met now after
-  last_line_ends mid [] front out passes some is over quiet given closes wrote = absurd (omega arith)
-  last_line_ends mid (b ∷ line) front out passes some is over quiet given closes wrote =
+  last_line_ends mid [] front out owed passes some is over quiet given closes wrote = absurd (omega arith)
+  last_line_ends mid (b ∷ line) front out owed passes some is over quiet given closes wrote =
       let last = items_from true (next_text open_text front) [] in
       let next_line : items_of met (s.bytes ++ b ∷ line) ≡ s.serves.done ++ (gives open_text front ++ last) =
       ap (λ e. items_of e (s.bytes ++ b ∷ line)) over.0
@@ -195,26 +194,22 @@ module _ (left0 written0 left written now after_left : Option (List ℕ)) (ended
       ∙ ap (λ (f : List ℕ). (s.serves.done ++ gives open_text f) ++ items_from true (next_text open_text f) [])
       (sym is)
       ∙ append_assoc s.serves.done (gives open_text front) last in
-      ends_by (IsComplete met after_left) (s.bytes ++ b ∷ line) (out ++ closing (next_text open_text front)
-      (length mid))
+      ends_by (IsComplete met after_left) (s.bytes ++ b ∷ line) (out ++ owed)
       (gives open_text front ++ last) next_line
-      (Gives-join records mid after (gives open_text front) last out
-      (closing (next_text open_text front) (length mid)) given closes)
+      (Gives-join records mid after (gives open_text front) last out owed given closes)
       (taken_part (b ∷ line) passes) wrote (inr over)
 
   -- the last line was answered, and only a part of what is owed then was written
-  pub closing_breaks : (mid : List SheetView) (line front out : List ℕ) (count : ℕ)
+  pub closing_breaks : (mid : List SheetView) (line front out owed : List ℕ) (count : ℕ)
       → Passes held left held2 after_left line → 0 < length line
       → front ≡ front_of line → IsOver met after_left → IsQuiet open_text front
       → Gives records (gives open_text front) out mid
-      → Gives mid (items_from true (next_text open_text front) [])
-      (closing (next_text open_text front) (length mid)) after
-      → Appends written now (out ++ take count (closing (next_text open_text front) (length mid)))
+      → Gives mid (items_from true (next_text open_text front) []) owed after
+      → Appends written now (out ++ take count owed)
       → Breaks left0 written0 after_left met now after
-  closing_breaks mid [] front out count passes some is over quiet given closes wrote = absurd (omega arith)
-  closing_breaks mid (b ∷ line) front out count passes some is over quiet given closes wrote =
-      let last = items_from true (next_text open_text front) [] in
-      let owed = closing (next_text open_text front) (length mid) in record {
+  closing_breaks mid [] front out owed count passes some is over quiet given closes wrote = absurd (omega arith)
+  closing_breaks mid (b ∷ line) front out owed count passes some is over quiet given closes wrote =
+      let last = items_from true (next_text open_text front) [] in record {
         bytes = s.bytes ++ b ∷ line;
         earlier = s.serves.done ++ gives open_text front;
         last = last;

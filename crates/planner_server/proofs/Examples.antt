@@ -1,11 +1,12 @@
 -- The definition of a session's answers on a small session.
-use Rattle.std.proofs.Common.{◌≡◌, ℕ, List, [], ◌∷◌, Some, None, true, false, Bool, refl, inl, codes, arith}
-use Rattle.std.proofs.lemmas.Bool.{cases_Bool}
+use Rattle.std.proofs.Common.{◌≡◌, List, [], ◌∷◌, Ok, Err, true, false, refl, inl, codes, arith}
 use Rattle.std.specs.Fmt.{digits}
-use Rattle.cut_model.specs.Cuts.{RouterSet, IsLeastCut, set_of, cut_value}
+use Rattle.cut_model.specs.Cuts.{IsLeastCut, set_of, cut_value}
 use Rattle.cut_model.specs.Net.{Net}
 use Rattle.network_text.specs.Sheets.{SheetView}
-use Rattle.planner_server.specs.Answers.{Alone, AloneTo, IsCutReply, IsReply, record_at, verdict_of}
+use Rattle.network_text.specs.Texts.{verdict_of}
+use Rattle.network_text.specs.declared.fault.TextKind.TheVariants.{UnknownWord, NoTerminal, EndedEarly}
+use Rattle.planner_server.specs.Answers.{Alone}
 use Rattle.query_lang.specs.Replies.{loaded_text, bye_text, refused_text, cut_text}
 use Rattle.text_forms.specs.Items.{Item, Ask, Load, Bye, items_of}
 
@@ -17,18 +18,18 @@ abbrev sheet : SheetView
 sheet = record { names = codes "a" ∷ codes "b" ∷ []; net = pair }
 
 -- the text `link a b 5` has this sheet
-verdict : verdict_of (codes "link a b 5" ∷ []) true ≡ Some sheet
+verdict : verdict_of (codes "link a b 5" ∷ []) true ≡ Ok sheet
 verdict = refl
 
--- a text without its END has none, and neither has one with a line of another form, or without a link
-unfinished : verdict_of (codes "link a b 5" ∷ []) false ≡ None
+-- a text without its END has none, and neither has one with a line of another form, or without a router
+unfinished : verdict_of (codes "link a b 5" ∷ []) false ≡ Err (record { kind = EndedEarly; line = 2 })
 unfinished = refl
 
-faulty : verdict_of (codes "link a b 5" ∷ codes "router c" ∷ []) true ≡ None
+faulty : verdict_of (codes "link a b 5" ∷ codes "routers c" ∷ []) true ≡ Err (record { kind = UnknownWord; line = 2 })
 faulty = refl
 
-no_link : verdict_of (codes "# nothing" ∷ []) true ≡ None
-no_link = refl
+no_router : verdict_of (codes "# nothing" ∷ []) true ≡ Err (record { kind = NoTerminal; line = 2 })
+no_router = refl
 
 -- the side of the first router alone is a least cut, and its value is that of the link
 least : IsLeastCut pair 0 1 (set_of (true ∷ false ∷ [])) 5
@@ -36,41 +37,49 @@ unfolding cut_value
 least = record { holds = refl; lacks = refl; value = refl; least = λ Y holds lacks. rw (holds, lacks) (omega arith) }
 
 items : List Item
-items = Load (codes "link a b 5" ∷ []) true ∷ Ask (codes "CUT a b") ∷ Ask (codes "CUT a a") ∷ Bye ∷ []
+items = Load (codes "link a b 5" ∷ []) true ∷ Ask (codes "CUT a b") ∷ Ask (codes "CUT a a") ∷ Load [] true ∷ Bye ∷ []
 
 -- the items of a small session
-items_are : items_of true (codes "LOAD\nlink a b 5\nEND\n# note\nCUT a b\nCUT a a\nBYE\nCUT a b\n") ≡ items
+items_are : items_of true (codes "LOAD\nlink a b 5\nEND\n# note\nCUT a b\nCUT a a\nLOAD\nEND\nBYE\nCUT a b\n") ≡ items
 unfolding items
 items_are = refl
 
 -- and the text that answers them
-answered : Alone (sheet ∷ []) 0 items (codes "@1 LOADED routers 2 links 1\n@1 CUT 5 side a\n@1 NO 9\n@1 BYE\n")
+answered : Alone (sheet ∷ []) 0 items
+    (codes "@1 LOADED routers 2 links 1\n@1 CUT 5 side a\n@1 NO 5\n@1 NO 18 line 1\n@1 BYE\n")
 unfolding items loaded_text bye_text refused_text cut_text digits
 answered = record {
   reply = codes "@1 LOADED routers 2 links 1\n";
-  rest = codes "@1 CUT 5 side a\n@1 NO 9\n@1 BYE\n";
+  rest = codes "@1 CUT 5 side a\n@1 NO 5\n@1 NO 18 line 1\n@1 BYE\n";
   next = 1;
   step = inl (refl, refl, refl);
   joins = refl;
   on = record {
     reply = codes "@1 CUT 5 side a\n";
-    rest = codes "@1 NO 9\n@1 BYE\n";
+    rest = codes "@1 NO 5\n@1 NO 18 line 1\n@1 BYE\n";
     next = 1;
     step = (refl, record { side = true ∷ false ∷ []; value = 5; size = refl; least = least; text = refl });
     joins = refl;
     on = record {
-      reply = codes "@1 NO 9\n";
-      rest = codes "@1 BYE\n";
+      reply = codes "@1 NO 5\n";
+      rest = codes "@1 NO 18 line 1\n@1 BYE\n";
       next = 1;
       step = (refl, refl);
       joins = refl;
       on = record {
-        reply = codes "@1 BYE\n";
-        rest = [];
+        reply = codes "@1 NO 18 line 1\n";
+        rest = codes "@1 BYE\n";
         next = 1;
-        step = (refl, refl);
+        step = (refl, inl refl);
         joins = refl;
-        on = (refl, refl);
+        on = record {
+          reply = codes "@1 BYE\n";
+          rest = [];
+          next = 1;
+          step = (refl, refl);
+          joins = refl;
+          on = (refl, refl);
+        };
       };
     };
   };

@@ -1,4 +1,3 @@
-pub mod Examples
 pub mod Answering
 pub mod Serving
 pub mod Ending
@@ -7,3 +6,4 @@ pub mod Publishing
 pub mod Requesting
 pub mod Commanding
 pub mod Deciding
+pub mod Examples

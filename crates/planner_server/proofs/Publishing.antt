@@ -1,5 +1,5 @@
 -- The records of a session by their sheets, and the texts that it may hold.
-use Rattle.std.proofs.Common.{◌≡◌, ℕ, ◌-◌, zero, suc, List, [], ◌∷◌, ◌++◌, length, None, Some, refl, sym, ap, ◌∙◌}
+use Rattle.std.proofs.Common.{◌≡◌, ℕ, ◌-◌, zero, suc, List, [], ◌∷◌, ◌++◌, length, None, Some, Ok, refl, sym, ap, ◌∙◌}
 use Rattle.std.proofs.Common.{◌+◌, arith, inl, length-append}
 use Rattle.std.specs.Arc.{arc_value}
 use Rattle.std.specs.Global.{Vec}
@@ -9,7 +9,7 @@ use Rattle.std.specs.declared.alloc.Global.{Global}
 use Rattle.std.specs.declared.option.Option.{Option}
 use Rattle.std.specs.declared.sync.Arc.{Arc}
 use Rattle.network_text.specs.Sheets.{SheetView}
-use Rattle.network_text.specs.Texts.{Reading}
+use Rattle.network_text.specs.Readings.{Reading}
 use Rattle.planner_server.specs.Answers.{record_at, LoadStep}
 use Rattle.planner_server.specs.Modes.{Grows}
 use Rattle.planner_server.specs.Records.{sheets_of}
@@ -51,7 +51,7 @@ pub published : (kept new : List (Arc SheetView Global)) (record_ : Arc SheetVie
     (reply : List ℕ)
     → new ≡ kept ++ record_ ∷ [] → arc_value record_ ≡ sheet → reply ≡ loaded_text (length (sheets_of kept) + 1)
     sheet.net
-    → LoadStep (sheets_of new) (length (sheets_of kept)) (Some sheet) reply (length (sheets_of new))
+    → LoadStep (sheets_of new) (length (sheets_of kept)) (Ok sheet) reply (length (sheets_of new))
 published kept new record_ sheet reply is holds text =
     let added : sheets_of new ≡ sheets_of kept ++ sheet ∷ [] =
     ap sheets_of is ∙ sheets_of-push kept record_ ∙ ap (λ s. sheets_of kept ++ s ∷ []) holds in

@@ -1,12 +1,12 @@
 -- A session goes on by a line, and ends.
 use Rattle.std.proofs.Common.{◌≡◌, ℕ, ◌≤◌, List, [], ◌∷◌, ◌++◌, length, None, Some, Bool, true, false, refl, sym}
-use Rattle.std.proofs.Common.{ap, ◌∙◌, arith, append_assoc, inl, if◌then◌else◌}
+use Rattle.std.proofs.Common.{ap, ◌∙◌, arith, append_assoc, if◌then◌else◌}
 use Rattle.std.proofs.lemmas.List.{append-nil}
 use Rattle.std.specs.declared.option.Option.{Option}
 use Rattle.network_text.specs.Sheets.{SheetView}
-use Rattle.planner_server.specs.Modes.{next_text, gives, Gives, Serves, closing, IsQuiet, IsByeLine}
+use Rattle.planner_server.specs.Modes.{next_text, gives, Gives, Serves, IsClosing, IsQuiet, IsByeLine}
 use Rattle.planner_server.proofs.Answering.{Alone-on, Gives-same, Gives-none}
-use Rattle.query_lang.specs.Replies.{bye_text, refused_text}
+use Rattle.query_lang.specs.Replies.{bye_text}
 use Rattle.text_forms.specs.Lines.{NoFeed, front_of, fronts_of}
 use Rattle.text_forms.specs.Words.{is_passed, is_load, is_end, is_bye}
 use Rattle.text_forms.specs.Items.{Item, Ask, Load, Bye, NoBye, items_from, items_on, items_of}
@@ -96,9 +96,9 @@ ends-one (Some text) = omega arith
 
 -- the item that the end of the input makes whole is answered by what is owed
 pub closes : (records : List SheetView) (text : Option (List (List ℕ)))
-    → Gives records (items_from true text []) (closing text (length records)) records
-closes records None = Gives-none records
-closes records (Some text) = Gives-same records (Load text false) (refused_text (length records) 9) (refl, inl refl)
+    (owed : List ℕ) → IsClosing records text owed → Gives records (items_from true text []) owed records
+closes records None owed is = rw is (Gives-none records)
+closes records (Some text) owed is = Gives-same records (Load text false) owed is
 
 -- a BYE is answered
 pub bye-gives : (records : List SheetView) → Gives records (Bye ∷ []) (bye_text (length records)) records

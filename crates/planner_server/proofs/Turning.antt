@@ -9,7 +9,7 @@ use Rattle.line_reader.specs.Ends.{IsOver}
 use Rattle.line_reader.specs.Held.{IsOpen}
 use Rattle.line_reader.specs.Passing.{Goes, Passes}
 use Rattle.network_text.specs.Sheets.{SheetView}
-use Rattle.planner_server.specs.Modes.{next_text, closing}
+use Rattle.planner_server.specs.Modes.{next_text}
 use Rattle.planner_server.specs.Sessions.{SoFar, Breaks, EndsWhole, EndsShort, EndsLong, IsCutShort, IsTooLong}
 use Rattle.planner_server.specs.Taking.{Holds}
 use Rattle.planner_server.specs.Turns.{IsAnswered, IsBegun, IsByeAnswered, IsByeBegun, Closed, GoesOn}
@@ -120,41 +120,43 @@ module _ (left0 written0 left after_left before now : Option (List ℕ)) (ended 
       (line front : List ℕ)
       → Passes held left held2 after_left line → 0 < length line → front ≡ front_of line → IsOver met after_left
       → (a : IsAnswered records after g.open_text next front before now) → final ≡ after
-      → Closed (next_text g.open_text front) (length after) now then r
+      → Closed after (next_text g.open_text front) now then r
       → MatchResult r (λ _. EndsWhole left0 written0 after_left met then final)
       (λ _. Breaks left0 written0 after_left met then final)
-  last_closed (Ok u) then final line front passes some is over a same wrote =
+  last_closed (Ok u) then final line front passes some is over a same c =
       subst (λ (v : List SheetView). EndsWhole left0 written0 after_left met then v) (sym same)
       (last_line_ends left0 written0 left before then after_left ended met held held2 records after g.open_text
       g.so_far
-      after line front a.text passes some is over a.taken.quiet a.taken.given
-      (closes after (next_text g.open_text front))
-      (Appends-trans before now then a.text (closing (next_text g.open_text front) (length after)) a.wrote wrote))
-  last_closed (Err e) then final line front passes some is over a same wrote =
+      after line front a.text c.owed passes some is over a.taken.quiet a.taken.given
+      (closes after (next_text g.open_text front) c.owed c.closing)
+      (Appends-trans before now then a.text c.owed a.wrote c.wrote))
+  last_closed (Err e) then final line front passes some is over a same c =
       subst (λ (v : List SheetView). Breaks left0 written0 after_left met then v) (sym same)
       (closing_breaks left0 written0 left before then after_left ended met held held2 records after g.open_text
       g.so_far
-      after line front a.text wrote.0 passes some is over a.taken.quiet a.taken.given
-      (closes after (next_text g.open_text front))
-      (Appends-trans before now then a.text (take wrote.0 (closing (next_text g.open_text front) (length after)))
-      a.wrote wrote.1))
+      after line front a.text c.owed c.wrote.0 passes some is over a.taken.quiet a.taken.given
+      (closes after (next_text g.open_text front) c.owed c.closing)
+      (Appends-trans before now then a.text (take c.wrote.0 c.owed) a.wrote c.wrote.1))
 
   -- the input ended between two lines, and what is owed then was written
-  pub end_closed : Passes held left held2 after_left [] → IsOver met after_left → after ≡ records
-      → Appends before now (closing g.open_text (length records)) → EndsWhole left0 written0 after_left met now after
-  end_closed passes over same wrote =
+  pub end_closed : {E : Type 0} (result : Result (Unit {0}) E) (done : Unit {0}) → Passes held left held2 after_left []
+      → IsOver met after_left → after ≡ records → result ≡ Ok done → Closed records g.open_text before now result
+      → EndsWhole left0 written0 after_left met now after
+  end_closed (Err e) done passes over same ok c = absurd (cc)
+  end_closed (Ok u) done passes over same ok c =
       subst (λ (v : List SheetView). EndsWhole left0 written0 after_left met now v) (sym same)
       (end_whole left0 written0 left before now after_left ended met held held2 records records g.open_text g.so_far
-      passes over (closes records g.open_text) wrote)
+      c.owed passes over (closes records g.open_text c.owed c.closing) c.wrote)
 
   -- and only a front of it was written
-  pub end_begun : Passes held left held2 after_left [] → IsOver met after_left → after ≡ records
-      → (count : ℕ) × Appends before now (take count (closing g.open_text (length records)))
+  pub end_begun : {E : Type 0} (result : Result (Unit {0}) E) (fault : E) → Passes held left held2 after_left []
+      → IsOver met after_left → after ≡ records → result ≡ Err fault → Closed records g.open_text before now result
       → Breaks left0 written0 after_left met now after
-  end_begun passes over same wrote =
+  end_begun (Ok u) fault passes over same err c = absurd (cc)
+  end_begun (Err e) fault passes over same err c =
       subst (λ (v : List SheetView). Breaks left0 written0 after_left met now v) (sym same)
       (end_breaks left0 written0 left before now after_left ended met held held2 records records g.open_text g.so_far
-      wrote.0 passes over (closes records g.open_text) wrote.1)
+      c.owed c.wrote.0 passes over (closes records g.open_text c.owed c.closing) c.wrote.1)
 
   -- the source failed
   pub failed : (line : List ℕ) → Passes held left held2 after_left line → met ≡ false → held2.taken < 2 ^ 30

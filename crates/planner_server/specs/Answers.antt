@@ -1,12 +1,17 @@
 -- Which text answers the items of a session, over the records that it published.
-use Rattle.std.specs.Prelude.{◌≡◌, ℕ, zero, suc, ◌+◌, ◌⊎◌, List, [], ◌∷◌, ◌++◌, Bool, true, false, length}
-use Rattle.std.specs.Prelude.{slice_get, Some, None}
+use Rattle.std.specs.Prelude.{◌≡◌, ℕ, zero, suc, ◌+◌, ◌⊎◌, List, [], ◌∷◌, ◌++◌, Bool, length}
+use Rattle.std.specs.Prelude.{slice_get, Some, None, Result, Ok, Err}
 use Rattle.std.specs.declared.option.Option.{Option}
 use Rattle.cut_model.specs.Cuts.{IsLeastCut, set_of}
 use Rattle.network_text.specs.Sheets.{SheetView}
-use Rattle.network_text.specs.Texts.{draft_of, sheet_of}
-use Rattle.query_lang.specs.Requests.{cut_of}
-use Rattle.query_lang.specs.Replies.{loaded_text, bye_text, refused_text, cut_text}
+use Rattle.network_text.specs.Faults.{kind_number}
+use Rattle.network_text.specs.Texts.{verdict_of}
+use Rattle.network_text.specs.declared.fault.TextFault.{TextFault}
+use Rattle.query_lang.specs.Requests.{request_of, fault_number}
+use Rattle.query_lang.specs.Replies.{loaded_text, bye_text, refused_text, cut_text, net_text}
+use Rattle.query_lang.specs.declared.request.Request.{Request}
+use Rattle.query_lang.specs.declared.request.Request.TheVariants.{Cut, Net}
+use Rattle.query_lang.specs.declared.request.RequestFault.{RequestFault}
 use Rattle.text_forms.specs.Items.{Item, Ask, Load, Bye}
 
 -- the record of a version: they are counted from 1, and version 0 has none
@@ -22,30 +27,30 @@ pub record IsCutReply (sheet : SheetView) (version a b : ℕ) (reply : List ℕ)
   pub least : IsLeastCut sheet.net a b (set_of side) value
   pub text : reply ≡ cut_text version value sheet.names side
 
--- a reply to a CUT of these two routers, or the refusal where the line is no such CUT
-abbrev pub RepliesTo : SheetView → ℕ → Option (ℕ × ℕ) → List ℕ → Type 0
-RepliesTo sheet version None reply = reply ≡ refused_text version 9
-RepliesTo sheet version (Some ends) reply = IsCutReply sheet version ends.0 ends.1 reply
+-- a reply to what a request line asks for, from the record of the version
+abbrev pub RepliesTo : Option SheetView → ℕ → Result Request RequestFault → List ℕ → Type 0
+RepliesTo record_ version (Err fault) reply = reply ≡ refused_text version (fault_number fault) None
+RepliesTo (Some sheet) version (Ok (Cut a b)) reply = IsCutReply sheet version a b reply
+RepliesTo (Some sheet) version (Ok Net) reply = reply ≡ net_text version sheet
+RepliesTo record_ version (Ok request) reply = ⊥
 
 -- a reply to a request line, from the record of this version
 abbrev pub IsReply : Option SheetView → ℕ → List ℕ → List ℕ → Type 0
-IsReply None version line reply = reply ≡ refused_text version 9
-IsReply (Some sheet) version line reply = RepliesTo sheet version (cut_of (Some sheet) line) reply
+IsReply record_ version line reply = RepliesTo record_ version (request_of record_ line) reply
 
--- the sheet of a text, and none where a line is at fault, no link came, or the input ended before its END
-abbrev pub verdict_of : List (List ℕ) → Bool → Option SheetView
-verdict_of text true = sheet_of (draft_of text)
-verdict_of text false = None
+-- the refusal of a text for its fault; want of memory may be told in its place
+abbrev pub IsTextRefusal : ℕ → TextFault → List ℕ → Type 0
+IsTextRefusal version fault reply =
+    (reply ≡ refused_text version (kind_number fault.kind) (Some fault.line)) ⊎ (reply ≡ refused_text version 90 None)
 
 -- A network with this verdict was loaded: a faulty text is refused; a sheet is published as the next record,
 -- or refused where 256 records stand; want of memory may come in place of each of these.
-abbrev pub LoadStep : List SheetView → ℕ → Option SheetView → List ℕ → ℕ → Type 0
-LoadStep records seen None reply next = (next ≡ seen) × ((reply ≡ refused_text seen 9) ⊎
-    (reply ≡ refused_text seen 90))
-LoadStep records seen (Some sheet) reply next =
+abbrev pub LoadStep : List SheetView → ℕ → Result SheetView TextFault → List ℕ → ℕ → Type 0
+LoadStep records seen (Err fault) reply next = (next ≡ seen) × IsTextRefusal seen fault reply
+LoadStep records seen (Ok sheet) reply next =
     ((next ≡ seen + 1) × (slice_get records seen ≡ Some sheet) × (reply ≡ loaded_text (seen + 1) sheet.net))
-    ⊎ ((next ≡ seen) × (seen ≡ 256) × (reply ≡ refused_text 256 20))
-    ⊎ ((next ≡ seen) × (reply ≡ refused_text seen 90))
+    ⊎ ((next ≡ seen) × (seen ≡ 256) × (reply ≡ refused_text 256 20 None))
+    ⊎ ((next ≡ seen) × (reply ≡ refused_text seen 90 None))
 
 -- an item is answered by the reply, and leads from one version to the next
 abbrev pub Step : List SheetView → ℕ → Item → List ℕ → ℕ → Type 0

@@ -2,8 +2,8 @@
 use Rattle.std.specs.Prelude.{◌≡◌, ℕ, List, [], ◌∷◌, ◌++◌, Bool, true, false, length, if◌then◌else◌, None, Some}
 use Rattle.std.specs.declared.option.Option.{Option}
 use Rattle.network_text.specs.Sheets.{SheetView}
-use Rattle.planner_server.specs.Answers.{Alone, AloneTo}
-use Rattle.query_lang.specs.Replies.{refused_text}
+use Rattle.network_text.specs.Texts.{verdict_of}
+use Rattle.planner_server.specs.Answers.{Alone, AloneTo, LoadStep}
 use Rattle.text_forms.specs.Items.{Item, Ask, Load, NoBye, items_on, items_of}
 use Rattle.text_forms.specs.Words.{is_passed, is_load, is_end, is_bye}
 
@@ -34,9 +34,9 @@ pub record Serves (bytes text : List ℕ) (records : List SheetView) (open_text 
   pub answered : Alone records 0 done text
 
 -- what is owed where the input ends: the refusal of a text that is open
-abbrev pub closing : Option (List (List ℕ)) → ℕ → List ℕ
-closing None seen = []
-closing (Some text) seen = refused_text seen 9
+abbrev pub IsClosing : List SheetView → Option (List (List ℕ)) → List ℕ → Type 0
+IsClosing records None owed = owed ≡ []
+IsClosing records (Some text) owed = LoadStep records (length records) (verdict_of text false) owed (length records)
 
 -- a line that is no BYE between items
 abbrev pub IsQuiet : Option (List (List ℕ)) → List ℕ → Type 0

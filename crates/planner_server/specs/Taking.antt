@@ -1,8 +1,9 @@
 -- What a line does to the state of a session.
-use Rattle.std.specs.Prelude.{◌≡◌, ℕ, List, [], length, false, None, Some}
+use Rattle.std.specs.Prelude.{◌≡◌, ◌⊎◌, ℕ, List, [], length, Bool, false, None, Some}
 use Rattle.std.specs.declared.option.Option.{Option}
 use Rattle.network_text.specs.Sheets.{SheetView}
-use Rattle.network_text.specs.Texts.{draft_of}
+use Rattle.network_text.specs.Readings.{IsWant}
+use Rattle.network_text.specs.Texts.{Progress, progress_of}
 use Rattle.planner_server.specs.Modes.{next_text, gives, Gives, IsQuiet, IsByeLine}
 use Rattle.planner_server.specs.declared.intake.Intake.{Intake}
 use Rattle.planner_server.specs.declared.intake.Intake.TheVariants.{Between, Text, Lost}
@@ -10,13 +11,29 @@ use Rattle.planner_server.specs.declared.intake.Taken.{Taken}
 use Rattle.planner_server.specs.declared.intake.Taken.TheVariants.{Silent, Reply, Bye}
 use Rattle.query_lang.specs.Replies.{bye_text}
 
--- the text that is open: none between two items, and else its lines so far, which a reader has read unless memory
--- was wanted
+-- these lines of a text were read, unless memory was wanted for one
+abbrev pub HasRead : Progress → List (List ℕ) → Type 0
+HasRead progress text = (progress ≡ progress_of text) ⊎ IsWant progress.draft
+
+-- a reader is kept though its text has met its END
+abbrev pub is_stale : Intake → Bool
+is_stale Between = false
+is_stale (Text reader) = reader.ended
+is_stale Lost = false
+
+-- how many lines a reader has read of the text that is open
+abbrev pub lines_in : Intake → ℕ
+lines_in Between = 0
+lines_in (Text reader) = reader.progress.lines
+lines_in Lost = 0
+
+-- the text that is open: none between two items, and else its lines so far, which a reader has read or which are
+-- passed over for want of memory
 abbrev pub Holds : Intake → Option (List (List ℕ)) → Type 0
 Holds Between None = Unit {0}
 Holds Between (Some text) = ⊥
 Holds (Text reader) None = ⊥
-Holds (Text reader) (Some text) = reader.lost ≡ false → reader.draft ≡ draft_of text
+Holds (Text reader) (Some text) = HasRead reader.progress text
 Holds Lost None = ⊥
 Holds Lost (Some text) = Unit {0}
 

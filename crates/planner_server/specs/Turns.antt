@@ -5,7 +5,7 @@ use Rattle.std.specs.Io.KnownBytes.{Appends}
 use Rattle.std.specs.declared.option.Option.{Option}
 use Rattle.line_reader.specs.Held.{Held}
 use Rattle.network_text.specs.Sheets.{SheetView}
-use Rattle.planner_server.specs.Modes.{closing, IsByeLine}
+use Rattle.planner_server.specs.Modes.{IsClosing, IsByeLine}
 use Rattle.planner_server.specs.Sessions.{SoFar, Breaks, EndsWhole, EndsShort, EndsLong}
 use Rattle.planner_server.specs.Taking.{Holds, IsTaken}
 use Rattle.planner_server.specs.declared.intake.Intake.{Intake}
@@ -55,11 +55,12 @@ LineAnswered old new open_text intake line before after (Err e) =
     IsBegun old new open_text intake line before after ⊎ IsByeBegun old new open_text line before after
 
 -- what is owed where the input ends was written, or at a failure a front of it
-abbrev pub Closed : {E : Type 0} → Option (List (List ℕ)) → ℕ → Option (List ℕ) → Option (List ℕ)
-    → Result (Unit {0}) E → Type 0
-Closed open_text seen before after result =
-    MatchResult result (λ _. Appends before after (closing open_text seen))
-    (λ _. (count : ℕ) × Appends before after (take count (closing open_text seen)))
+pub record Closed {E : Type 0} (records : List SheetView) (open_text : Option (List (List ℕ)))
+    (before after : Option (List ℕ)) (result : Result (Unit {0}) E) : Type 0 where
+  pub owed : List ℕ
+  pub closing : IsClosing records open_text owed
+  pub wrote : MatchResult result (λ _. Appends before after owed)
+      (λ _. (count : ℕ) × Appends before after (take count owed))
 
 -- a session so far, with the text that is open
 pub record GoesOn (left0 written0 : Option (List ℕ)) (held : Held) (left : Option (List ℕ)) (ended : Bool)

@@ -5,7 +5,7 @@ ghost use Rattle.std.specs.String.{string_bytes};
 ghost use Rattle.planner_server.specs.Commands.{IsPlan};
 ghost use Rattle.planner_server.specs.Records.{sheets_of};
 ghost use Rattle.planner_server.specs.Sessions.{Breaks, EndsLong, EndsShort, EndsWhole};
-ghost use Rattle.planner_server.specs.Taking.{Holds};
+ghost use Rattle.planner_server.specs.Taking.{Holds, lines_in};
 ghost use Rattle.planner_server.specs.Turns.{EndsAs};
 ghost use Rattle.text_forms.specs.Items.{NoBye, items_of};
 ghost use Rattle.wires.specs.Causes.{Rose};
@@ -33,6 +33,7 @@ impl Desk {
         ensures taken { IfOk result (λ desk. desk.reader.taken ≡ 0) }
         ensures records { IfOk result (λ desk. sheets_of desk.session.records.items ≡ []) }
         ensures between { IfOk result (λ desk. Holds desk.session.intake None) }
+        ensures no_line { IfOk result (λ desk. lines_in desk.session.intake ≡ 0) }
     {
         Ok(Desk {
             reader: LineReader::make(alloc)?,
@@ -87,7 +88,7 @@ impl From<SessionEnd> for Status {
 /// of its bytes is left open.
 ///
 /// `NoMemory` comes only before the first read. A run takes at most 2^30 bytes from its source, keeps
-/// at most 256 records of up to about 200 kB each, and some 500 kB beside.
+/// at most 256 records of up to about 200 kB each, and some 1,200 kB beside.
 pub fn run<S: Source, K: Sink>(
     alloc: Global,
     words: &[String],

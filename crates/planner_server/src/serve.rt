@@ -7,7 +7,7 @@ ghost use Rattle.line_reader.specs.Held.{Held};
 ghost use Rattle.line_reader.specs.Ends.{IsOver};
 ghost use Rattle.planner_server.specs.Records.{sheets_of};
 ghost use Rattle.planner_server.specs.Sessions.{Breaks, EndsWhole};
-ghost use Rattle.planner_server.specs.Taking.{Holds};
+ghost use Rattle.planner_server.specs.Taking.{Holds, lines_in};
 ghost use Rattle.planner_server.specs.Turns.{Closed, EndsAs, GoesOn, LineAnswered, TurnGives};
 ghost use Rattle.text_forms.specs.Lines.{front_of};
 ghost use Rattle.wires.specs.Bytes.{PutAppends};
@@ -48,9 +48,11 @@ fn answer_line<K: Sink>(
     line: &[u8],
     sink: &mut K,
 ) -> Result<bool, Failed>
+    requires few { lines_in session.old.intake < 2 ^ 31 }
     ensures answered { (open_text : Option (List (List ℕ))) → Holds session.old.intake open_text
         → LineAnswered (sheets_of session.old.records.items) (sheets_of session.new.records.items)
         open_text session.new.intake line.now (K.written sink.old) (K.written sink.new) result }
+    ensures lines { lines_in session.new.intake ≤ lines_in session.old.intake + 1 }
     ensures cause { HasCause (K.write_faults sink.old) (K.write_faults sink.new) result }
     ensures beside { K.beside_sink sink.new ≡ K.beside_sink sink.old }
 {
@@ -69,8 +71,9 @@ fn answer_line<K: Sink>(
 
 /// Puts what is owed where the input ends.
 fn close_input<K: Sink>(session: &mut Session, sink: &mut K) -> Result<(), Failed>
+    requires few { lines_in session.old.intake < 2 ^ 31 }
     ensures closed { (open_text : Option (List (List ℕ))) → Holds session.old.intake open_text
-        → Closed open_text (length (sheets_of session.old.records.items))
+        → Closed (sheets_of session.old.records.items) open_text
         (K.written sink.old) (K.written sink.new) result }
     ensures records { session.new.records ≡ session.old.records }
     ensures cause { HasCause (K.write_faults sink.old) (K.write_faults sink.new) result }
@@ -90,6 +93,7 @@ fn answer_last<K: Sink>(
     line: &[u8],
     sink: &mut K,
 ) -> Result<(), Failed>
+    requires few { lines_in session.old.intake + 1 < 2 ^ 31 }
     ensures ends { (left0 written0 left after : Option (List ℕ)) (held held2 : Held) (ended met : Bool) (l : List ℕ)
         → GoesOn left0 written0 held left ended (K.written sink.old)
         (sheets_of session.old.records.items) session.old.intake
@@ -116,6 +120,8 @@ fn turn<S: Source, K: Sink>(
     source: &mut S,
     sink: &mut K,
 ) -> Option<SessionEnd>
+    requires budget { reader.old.taken ≤ 2 ^ 30 }
+    requires counted { lines_in session.old.intake + length reader.old.bytes ≤ reader.old.taken }
     ensures gives { (left0 written0 : Option (List ℕ))
         → GoesOn left0 written0 reader.old (S.left source.old) (S.ended source.old) (K.written sink.old)
         (sheets_of session.old.records.items) session.old.intake
@@ -129,9 +135,9 @@ fn turn<S: Source, K: Sink>(
     ensures writes { K.write_faults sink.old ≤ K.write_faults sink.new }
     ensures beside_source { S.beside_source source.new ≡ S.beside_source source.old }
     ensures beside_sink { K.beside_sink sink.new ≡ K.beside_sink sink.old }
-    ensures budget { reader.old.taken ≤ 2 ^ 30 → reader.new.taken ≤ 2 ^ 30 }
-    ensures goes { result ≡ None → reader.old.taken ≤ 2 ^ 30
-        → (2 ^ 30 + length reader.new.bytes) - reader.new.taken
+    ensures budget { reader.new.taken ≤ 2 ^ 30 }
+    ensures counted { result ≡ None → lines_in session.new.intake + length reader.new.bytes ≤ reader.new.taken }
+    ensures goes { result ≡ None → (2 ^ 30 + length reader.new.bytes) - reader.new.taken
         < (2 ^ 30 + length reader.old.bytes) - reader.old.taken }
 {
     match reader.next_line(source, line) {
@@ -166,6 +172,7 @@ pub fn serve<S: Source, K: Sink>(
     requires none_taken { reader.old.taken ≡ 0 }
     requires no_records { sheets_of session.old.records.items ≡ [] }
     requires between { Holds session.old.intake None }
+    requires no_line { lines_in session.old.intake ≡ 0 }
     ensures ends { EndsAs result (S.left source.old) (K.written sink.old) (S.left source.new) (S.ended source.new)
         (K.written sink.new) (sheets_of session.new.records.items) }
     ensures read_fault { result ≡ SessionEnd.ReadFault → Rose (S.read_faults source.old) (S.read_faults source.new) }

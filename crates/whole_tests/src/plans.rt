@@ -4,6 +4,7 @@ ghost use Rattle.std.specs.Prelude.{◌<◌};
 use crate::words::plan_words;
 use planner_server::{Status, run};
 use std::alloc::Global;
+use std::process::Abort;
 use std::test::Fail;
 use wires::{MemorySink, MemorySource};
 
@@ -27,11 +28,33 @@ const PARALLEL: &str =
 
 const PARALLEL_REPLIES: &str = "@1 LOADED routers 3 links 5\n@1 CUT 5 side a\n@1 CUT 1 side a b\n";
 
-/// Items of forms that aren't built, between others.
-const MIXED: &str = "CUT a b\nTREE\nLOAD\nrouter a\nEND\nLOAD\nlink a b 5\nEND\nCUT a a\nCUT b a\n";
+/// A router that no link reaches.
+const APART: &str = "LOAD\nlink a b 3\nrouter c\nEND\nCUT a c\n";
 
-const MIXED_REPLIES: &str =
-    "@0 NO 9\n@0 NO 9\n@0 NO 9\n@1 LOADED routers 2 links 1\n@1 NO 9\n@1 CUT 5 side b\n";
+const APART_REPLIES: &str = "@1 LOADED routers 3 links 1\n@1 CUT 0 side a b\n";
+
+/// The first faulty line of a text decides, and a word that is no request.
+const TWO_FAULTS: &str = "LOAD\nrouter a\nrouter b\nlink a b x\nrouter c\nlnk a\nEND\nTREE\n";
+
+const TWO_FAULTS_REPLIES: &str = "@0 NO 14 line 3\n@0 NO 1\n";
+
+/// A text that the input cuts off.
+const CUT_OFF: &str = "LOAD\nrouter a";
+
+const CUT_OFF_REPLIES: &str = "@0 NO 19 line 2\n";
+
+/// Lines that end in a carriage return, and a last line that doesn't end.
+const RETURNS: &str = "LOAD\r\nlink a b 5\r\nEND\r\n\r\n# note\r\nCUT a b";
+
+const RETURNS_REPLIES: &str = "@1 LOADED routers 2 links 1\n@1 CUT 5 side a\n";
+
+/// Refusals before any network and after one, and the network told back.
+const REFUSALS: &str = "CUT a b\ncut a b\nCUT a\nNET\nNET x\nLOAD x\nBYE now\nLOAD\nEND\n\
+    LOAD\nlink a b 5\nEND\nCUT a z\nCUT z z\nCUT a a\nNET\n";
+
+const REFUSALS_REPLIES: &str = "@0 NO 6\n@0 NO 1\n@0 NO 3\n@0 NO 6\n@0 NO 3\n@0 NO 3\n@0 NO 3\n\
+    @0 NO 18 line 1\n@1 LOADED routers 2 links 1\n@1 NO 4\n@1 NO 4\n@1 NO 5\n\
+    @1 NET 4\nrouter a\nrouter b\nlink a b 5\nEND\n";
 
 /// How a run ended, what was written, and how many records were handed back.
 #[derive(Drop)]
@@ -79,7 +102,11 @@ fn replies_are_the_same_in_whatever_pieces_the_input_comes(rt: HostRuntime) -> R
         (FIRST, FIRST_REPLIES, 1),
         (TWO, TWO_REPLIES, 2),
         (PARALLEL, PARALLEL_REPLIES, 1),
-        (MIXED, MIXED_REPLIES, 1),
+        (APART, APART_REPLIES, 1),
+        (TWO_FAULTS, TWO_FAULTS_REPLIES, 0),
+        (CUT_OFF, CUT_OFF_REPLIES, 0),
+        (RETURNS, RETURNS_REPLIES, 1),
+        (REFUSALS, REFUSALS_REPLIES, 1),
     ];
     for (input, replies, records) in table {
         for piece in [1usize, 7, 4096] {
@@ -147,6 +174,69 @@ fn words_that_are_no_command_leave_all_as_it_was(rt: HostRuntime) -> Result<(), 
     assert_eq!(rt; outcome.status, Status::BadWords);
     assert!(rt; sink.written().is_empty() && outcome.records.is_empty());
     Ok(())
+}
+
+/// An input as often as it says, between a first and a last part.
+fn repeated(
+    alloc: Global,
+    first: &str,
+    part: &str,
+    count: u32,
+    last: &str,
+) -> Result<String, Fail> {
+    let mut input = String::from_str(alloc, first)?;
+    for _ in 0..count {
+        input.push_str(part)?;
+    }
+    input.push_str(last)?;
+    Ok(input)
+}
+
+/// An input that comes in pieces of several sizes gets these replies.
+fn assert_replies(rt: &impl Abort, alloc: Global, input: &str, replies: &str) -> Result<(), Fail> {
+    for piece in [1usize, 7, 4096] {
+        if piece > 0 {
+            let ended = plan(alloc, input, piece, None, AMPLE, None)?;
+            assert_eq!(rt; ended.status, Status::Done);
+            assert_eq!(rt; ended.written.as_slice(), replies.as_bytes());
+        }
+    }
+    Ok(())
+}
+
+#[test]
+fn as_many_routers_as_may_be(rt: HostRuntime) -> Result<(), Fail> {
+    let all = numbered_routers(rt.alloc(), 1024)?;
+    assert_replies(
+        &rt,
+        rt.alloc(),
+        all.as_str(),
+        "@1 LOADED routers 1024 links 0\n",
+    )?;
+    let more = numbered_routers(rt.alloc(), 1025)?;
+    assert_replies(&rt, rt.alloc(), more.as_str(), "@0 NO 16 line 1025\n")?;
+    let long_name = repeated(rt.alloc(), "LOAD\nrouter ", "n", 33, "\nEND\n")?;
+    assert_replies(&rt, rt.alloc(), long_name.as_str(), "@0 NO 11 line 1\n")
+}
+
+#[test]
+fn a_line_of_513_bytes_is_too_long(rt: HostRuntime) -> Result<(), Fail> {
+    let request = repeated(rt.alloc(), "", "x", 513, "\n")?;
+    assert_replies(&rt, rt.alloc(), request.as_str(), "@0 NO 2\n")?;
+    let remark = repeated(rt.alloc(), "LOAD\n#", "x", 512, "\nEND\n")?;
+    assert_replies(&rt, rt.alloc(), remark.as_str(), "@0 NO 13 line 1\n")
+}
+
+/// A LOAD of so many routers, each with a name of its own.
+fn numbered_routers(alloc: Global, count: u32) -> Result<String, Fail> {
+    let mut input = String::from_str(alloc, "LOAD\n")?;
+    for number in 0..count {
+        input.push_str("router r")?;
+        input.push_str(itoa::Buffer::new().format(number))?;
+        input.push_str("\n")?;
+    }
+    input.push_str("END\n")?;
+    Ok(input)
 }
 
 #[test]

@@ -1,5 +1,6 @@
 use Rattle.std.proofs.Common.{◌≡◌, ◌≤◌, ◌+◌, ◌-◌, ◌^◌, length}
 use Rattle.planner_server.specs.Records.{sheets_of}
+use Rattle.planner_server.specs.Taking.{lines_in}
 use Rattle.planner_server.specs.Turns.{GoesOn}
 use Rattle.planner_server.proofs.serve.serve.Given as goal
 
@@ -9,6 +10,7 @@ invariant-lines g l = record {
       (g.S.Source.ended l.source)
       (g.K.Sink.written l.sink) (sheets_of l.session.records.items) l.session.intake;
   budget : l.reader.taken ≤ 2 ^ 30;
+  counted : lines_in l.session.intake + length l.reader.bytes ≤ l.reader.taken;
   reads : g.S.Source.read_faults l.fn.source ≤ g.S.Source.read_faults l.source;
   writes : g.K.Sink.write_faults l.fn.sink ≤ g.K.Sink.write_faults l.sink;
   beside_source : g.S.Source.beside_source l.source ≡ g.S.Source.beside_source l.fn.source;

@@ -52,18 +52,18 @@ returns-in-Ok-close_input-clause-gives g c = λ left0 written0 so.
     let read = rw c.in-Ok-End.field-0-is at c.in-Ok-End.ensures.reads in
     end_closed left0 written0 _ (g.S.Source.left c.next_line.new.source) _ (g.K.Sink.written c.close_input.new.sink) _
     (g.S.Source.ended c.next_line.new.source) _ c.next_line.new.self _ _ c.args.session.now.intake
-    c.close_input.new.session.intake so
+    c.close_input.new.session.intake so _ _
     read.0 read.1 (ap (λ (v : Vec (Arc SheetView Global)). sheets_of v.items) c.in-Ok-close_input.ensures.records)
-    (c.in-Ok-close_input.ensures.closed so.open_text so.holds)
+    refl (c.in-Ok-close_input.ensures.closed so.open_text so.holds)
 
 pub returns-in-Err-close_input-clause-gives : goal.returns-in-Err-close_input-clause-gives
 returns-in-Err-close_input-clause-gives g c = λ left0 written0 so.
     let read = rw c.in-Ok-End.field-0-is at c.in-Ok-End.ensures.reads in
     end_begun left0 written0 _ (g.S.Source.left c.next_line.new.source) _ (g.K.Sink.written c.close_input.new.sink) _
     (g.S.Source.ended c.next_line.new.source) _ c.next_line.new.self _ _ c.args.session.now.intake
-    c.close_input.new.session.intake so
+    c.close_input.new.session.intake so _ _
     read.0 read.1 (ap (λ (v : Vec (Arc SheetView Global)). sheets_of v.items) c.in-Err-close_input.ensures.records)
-    (c.in-Err-close_input.ensures.closed so.open_text so.holds)
+    refl (c.in-Err-close_input.ensures.closed so.open_text so.holds)
 
 pub returns-in-Ok-TooMuch-clause-gives : goal.returns-in-Ok-TooMuch-clause-gives
 returns-in-Ok-TooMuch-clause-gives g c = λ left0 written0 so.

@@ -1,0 +1,59 @@
+# What the benchmarks share; read by them at the top of the repository, with `program` and `rounds`
+# set. Makes the folder `room`, and takes it away at the end.
+# shellcheck shell=sh disable=SC2154
+
+[ -x "$program" ] || {
+    printf '%s is not built: ./planner builds it\n' "$program" >&2
+    exit 1
+}
+room=$(mktemp -d) || exit 1
+trap 'rm -rf "$room"' EXIT
+trap 'exit 1' HUP INT TERM
+
+# compile TOOL: a C program of this folder.
+compile() {
+    "${CC:-cc}" -std=c11 -O2 -Wall -Wextra -o "$room/$1" "bench/$1.c"
+}
+
+# measured NAME WORD..: runs the command, and appends its seconds, kB and status to the file NAME.
+measured() {
+    name=$1
+    shift
+    "$room/measure" "$@" 3>>"$room/$name" >/dev/null
+}
+
+# median_of NAME: the median of the seconds in the file NAME.
+median_of() {
+    cut -d ' ' -f 1 "$room/$1" | sort -n | sed -n "$(((rounds + 1) / 2))p"
+}
+
+# peak_of NAME: the most memory in the file NAME, in kB.
+peak_of() {
+    cut -d ' ' -f 2 "$room/$1" | sort -n | tail -n 1
+}
+
+# statuses_of NAME: the exit statuses in the file NAME, each once.
+statuses_of() {
+    cut -d ' ' -f 3 "$room/$1" | sort -u | tr '\n' ' '
+}
+
+# compare TITLE NAME YARDSTICK WORD..: the program and the yardstick in turn on the input NAME.
+compare() {
+    title=$1 input=$2 yardstick=$3
+    shift 3
+    for _ in $(seq "$rounds"); do
+        measured "$input.ours" "$program" plan <"$room/$input"
+        measured "$input.theirs" "$@" <"$room/$input"
+    done
+    awk -v title="$title" -v yardstick="$yardstick" -v bytes="$(wc -c <"$room/$input")" \
+        -v ours="$(median_of "$input.ours")" -v theirs="$(median_of "$input.theirs")" \
+        -v peak="$(peak_of "$input.ours")" -v statuses="$(statuses_of "$input.ours")" 'BEGIN {
+            printf "%s: %.0f MB/s (%.3f s), status %s\n", title, bytes / ours / 1e6, ours, statuses
+            printf "    %s: %.0f MB/s (%.3f s); ours takes %.2f times as long\n",
+                yardstick, bytes / theirs / 1e6, theirs, ours / theirs
+            printf "    peak memory: %.1f MB\n", peak / 1e3
+        }'
+    rm "$room/$input"
+}
+
+compile measure || exit 1

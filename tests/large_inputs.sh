@@ -1,0 +1,75 @@
+# Cases whose inputs are too large to be stored, made on the fly; read by tests/run.
+# shellcheck shell=sh disable=SC2154
+
+# a_long_line BYTE: a million of these bytes.
+a_long_line() {
+    head -c 1000000 /dev/zero | tr '\0' "$1"
+}
+
+# The first path, with a line of a million bytes before its end and another as the last line.
+{
+    sed '/^BYE$/d' "$first/stdin"
+    a_long_line X
+    printf '\nCUT a b\n'
+    a_long_line '#'
+} >"$room/stdin"
+{
+    sed '/BYE$/d' "$first/stdout"
+    printf '%s\n' '@1 NO 2' '@1 CUT 5 side a' '@1 NO 2'
+} >"$room/wanted"
+try lines_of_a_million_bytes 0 "$room/wanted" "$room/stdin" plan
+
+# Behind the long line the text goes on to its END, and so does a text that is one long line.
+{
+    printf 'LOAD\nrouter a\n'
+    a_long_line X
+    printf '\nrouter b\nEND\nNET\nLOAD\n'
+    a_long_line ' '
+} >"$room/stdin"
+printf '%s\n' '@0 NO 13 line 2' '@0 NO 6' '@0 NO 13 line 1' >"$room/wanted"
+try lines_of_a_million_bytes_within_texts 0 "$room/wanted" "$room/stdin" plan
+
+# Texts of 8,192 links among 1,024 routers with one line more. Only the number of the routers and
+# that of the links are at their limits, so a line that needs neither is right.
+{
+    for line in 'link r0 new 1000000000001' 'link r0 new 5' 'link r0 r1 5' 'link r5 r5 0' \
+        'router new' 'router r7'; do
+        echo LOAD
+        awk 'BEGIN { for (i = 0; i < 8192; i++) print "link r" i % 1024 " r" (i + 1) % 1024 " 1" }'
+        printf '%s\nEND\n' "$line"
+    done
+    echo 'CUT r0 r512'
+} >"$room/stdin"
+printf '%s\n' '@0 NO 15 line 8193' '@0 NO 16 line 8193' '@0 NO 17 line 8193' '@0 NO 17 line 8193' \
+    '@0 NO 16 line 8193' '@1 LOADED routers 1024 links 8192' '@1 CUT 16 side r0' >"$room/wanted"
+try both_limits_at_once 0 "$room/wanted" "$room/stdin" plan
+try_in_pieces both_limits_at_once 0 "$room/wanted" "$room/stdin" plan
+
+# The largest text, with names of 32 bytes and the greatest capacities; what NET tells of it is
+# loaded again.
+awk 'BEGIN {
+    for (i = 0; i < 8192; i++) {
+        a = i * 7 % 1024
+        b = (i * 7 + int(i / 1024) + 1) % 1024
+        printf "link router-%04d.%020d router-%04d.%020d 1000000000000\n", a, a, b, b
+    }
+    print "END"
+}' >"$room/links"
+{
+    awk '$1 == "link" { print $2; print $3 }' "$room/links" |
+        awk '!seen[$0]++ { print "router " $0 }'
+    cat "$room/links"
+} >"$room/told"
+{
+    echo LOAD
+    cat "$room/links"
+    printf 'NET\nLOAD\n'
+    cat "$room/told"
+    echo NET
+} >"$room/stdin"
+for version in 1 2; do
+    printf '@%s LOADED routers 1024 links 8192\n@%s NET 9217\n' "$version" "$version"
+    cat "$room/told"
+done >"$room/wanted"
+try the_largest_network_is_told_back 0 "$room/wanted" "$room/stdin" plan
+try_in_pieces the_largest_network_is_told_back 0 "$room/wanted" "$room/stdin" plan
