@@ -15,7 +15,10 @@ fault_in line kind = Err record { kind = kind; line = line }
 
 -- This many names and links, among which no name but `a` is.
 abbrev draft_with : ℕ → ℕ → Draft
-draft_with names links = record { names = replicate names (codes "a"); links = replicate links record { a = 0; b = 0; cap = 0 } }
+draft_with names links = record {
+  names = replicate names (codes "a");
+  links = replicate links record { a = 0; b = 0; cap = 0 };
+}
 
 -- Names are numbered in order of appearance, a remark and an empty line are passed over, and links
 -- between the same routers or of a router with itself stay.

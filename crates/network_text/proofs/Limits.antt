@@ -77,7 +77,8 @@ link-small draft first second cap is_first is_second fits few room small =
     let ends : List (List ℕ) = with_ends draft.names first second in
     let link : Link = link_between ends first second cap in
     let old : All (IsLink (length ends)) draft.links =
-    links-more (length draft.names) (length ends) draft.links (length-with_ends draft.names first second) small.within in
+    links-more (length draft.names) (length ends) draft.links (length-with_ends draft.names first second)
+    small.within in
     let new : IsLink (length ends) link =
     record { a = first-below draft.names first second; b = second-below draft.names first second; cap = fits } in
     record {
