@@ -42,6 +42,7 @@ named-with_name names name named is =
 IsLink-more : (few many : ℕ) (link : Link) → few ≤ many → IsLink few link → IsLink many link
 IsLink-more few many link more is = record { a = omega (arith, is.a); b = omega (arith, is.b); cap = is.cap }
 
+-- So do all links.
 links-more : (few many : ℕ) (links : List Link) → few ≤ many → All (IsLink few) links → All (IsLink many) links
 links-more few many links more are = λ k d below. IsLink-more few many _ more (are k d below)
 
@@ -89,6 +90,7 @@ link-small draft first second cap is_first is_second fits few room small =
           (All-cons (IsLink (length ends)) link [] new (All-nil (IsLink (length ends))));
     }
 
+-- A link that is added was within the limits.
 with_link-small : (old new : Draft) (first second : List ℕ) (cap : ℕ) → is_name first ≡ true → is_name second ≡ true
     → with_link old first second cap ≡ Ok new → IsSmall old → IsSmall new
 with_link-small old new first second cap is_first is_second h small =
@@ -110,6 +112,7 @@ with_link-small old new first second cap is_first is_second h small =
       ]
     ]
 
+-- The same with the number that may stand in its place.
 with_capacity-small : (old new : Draft) (first second : List ℕ) (cap : Option ℕ)
     → is_name first ≡ true → is_name second ≡ true → with_capacity old first second cap ≡ Ok new
     → IsSmall old → IsSmall new
