@@ -1,13 +1,12 @@
 -- The definitions on small texts, by computing.
-use Rattle.std.proofs.Common.{◌≡◌, ℕ, List, [], ◌∷◌, ◌++◌, true, false, Some, None, Result, Ok, Err, refl, codes, replicate}
-use Rattle.cut_model.specs.declared.network.Link.{Link}
+use Rattle.std.proofs.Common.{◌≡◌, ℕ, [], ◌∷◌, ◌++◌, true, false, Some, None, Result, Ok, Err, refl, codes, replicate}
 use Rattle.network_text.specs.Sheets.{SheetView, number_of}
-use Rattle.network_text.specs.Texts.{Draft, link_line, router_line, with_line, with_link_among, verdict_of}
+use Rattle.network_text.specs.Texts.{Draft, link_line, router_line, with_line, verdict_of}
 use Rattle.network_text.specs.declared.fault.TextFault.{TextFault}
 use Rattle.network_text.specs.declared.fault.TextKind.{TextKind}
 use Rattle.network_text.specs.declared.fault.TextKind.TheVariants.{UnknownWord, BadName, WrongCount, LineTooLong}
 use Rattle.network_text.specs.declared.fault.TextKind.TheVariants.{BadNumber, CapTooLarge, TooManyRouters}
-use Rattle.network_text.specs.declared.fault.TextKind.TheVariants.{TooManyLinks, NoTerminal, EndedEarly, Memory}
+use Rattle.network_text.specs.declared.fault.TextKind.TheVariants.{TooManyLinks, NoTerminal, EndedEarly}
 
 -- The verdict that a text has this fault in this line.
 abbrev fault_in : ℕ → TextKind → Result SheetView TextFault

@@ -1,19 +1,17 @@
 -- What the lines of a text name stays within the limits of a network.
-use Rattle.std.proofs.Common.{◌≡◌, ℕ, ◌<◌, ◌≤◌, List, [], ◌∷◌, ◌++◌, true, false, OnOk}
+use Rattle.std.proofs.Common.{◌≡◌, ℕ, ◌<◌, ◌≤◌, List, [], ◌∷◌, ◌++◌, true, OnOk}
 use Rattle.std.proofs.Common.{Option, Some, None, Result, Ok, Err, IsTrue, length, nat_lt, nat_le, codes, subst}
 use Rattle.std.proofs.Common.{inl, inr, arith, length-append}
 use Rattle.std.specs.List.{All, list_any}
 use Rattle.std.specs.Str.{bytes_eq}
 use Rattle.std.proofs.lemmas.Bool.{cases_Bool, ltb-false, leb-false}
 use Rattle.std.proofs.lemmas.List.Elements.{All-append, All-nil, All-cons}
-use Rattle.text_forms.specs.Lines.{is_long}
 use Rattle.text_forms.specs.Names.{is_name}
 use Rattle.text_forms.specs.Numbers.{number_in}
-use Rattle.text_forms.specs.Words.{is_passed, line_words}
 use Rattle.cut_model.specs.declared.network.Link.{Link}
 use Rattle.cut_model.specs.Net.{IsLink}
 use Rattle.network_text.specs.Texts.{Draft, with_name, with_ends, link_between, with_link}
-use Rattle.network_text.specs.Texts.{with_capacity, with_names, router_line, link_line, with_words, with_line}
+use Rattle.network_text.specs.Texts.{with_capacity, with_names, router_line, link_line, with_words}
 use Rattle.network_text.specs.Readings.{Adds, IsWithinLimits}
 use Rattle.network_text.specs.declared.fault.TextKind.{TextKind}
 use Rattle.network_text.proofs.Places.{length-with_name, first-below, second-below}

@@ -15,7 +15,7 @@ use Rattle.text_forms.proofs.Written.{fronts_of-written, is_end-more}
 use Rattle.cut_model.specs.Net.{IsLink}
 use Rattle.cut_model.specs.declared.network.Link.{Link}
 use Rattle.network_text.specs.Sheets.{SheetView, IsSheet}
-use Rattle.network_text.specs.Writing.{name_at, router_text, link_text, sheet_text, before_end, has_end}
+use Rattle.network_text.specs.Writing.{name_at, link_text, sheet_text, before_end, has_end}
 use Rattle.network_text.proofs.RereadingNames.{AreNames}
 
 -- The words that name a router.
