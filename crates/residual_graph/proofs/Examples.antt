@@ -1,9 +1,10 @@
 -- The definitions on a small network, by computing: two parallel links, a self link, and one more.
-use Rattle.std.proofs.Common.{◌≡◌, ℕ, [], ◌∷◌, refl}
+use Rattle.std.proofs.Common.{◌≡◌, ℕ, true, [], ◌∷◌, refl}
 use Rattle.std.specs.Prelude.{pos, negsuc}
 use Rattle.cut_model.specs.declared.network.Link.{Link}
 use Rattle.cut_model.specs.Net.{Net}
-use Rattle.residual_graph.specs.Arcs.{tail_in, head_in, tail_of, head_of, arcs_from}
+use Rattle.residual_graph.specs.Arcs.{tail_in, head_in, tail_of, head_of, arcs_from, turned, twin}
+use Rattle.residual_graph.specs.Places.{arcs_below, begin_of, place_at}
 use Rattle.residual_graph.specs.View.{ResidualView, left_on, pushed}
 
 joins : ℕ → ℕ → ℕ → Link
@@ -47,3 +48,18 @@ nothing_left = refl
 less : pushed (pos 1 ∷ pos 5 ∷ []) 3 2 ≡ pos 1 ∷ pos 3 ∷ []
 unfolding pushed
 less = refl
+
+-- the places of router 1 begin behind the two of router 0
+first_place : begin_of small 1 ≡ 2
+unfolding begin_of arcs_below arcs_from tail_in small joins
+first_place = refl
+
+-- the place of its last arc, which goes to router 2
+last_place : place_at small 6 ≡ record { head = 2; arc = 7 }
+unfolding place_at arcs_below arcs_from tail_in head_in small joins
+last_place = refl
+
+-- the arc back of the first link is the twin of the arc there
+turned_back : turned true 0 ≡ 1
+unfolding twin
+turned_back = refl

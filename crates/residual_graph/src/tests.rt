@@ -2,7 +2,7 @@
 ghost use Rattle.std.specs.Prelude.{◌≡◌, ◌<◌, ◌≤◌};
 ghost use Rattle.residual_graph.specs.Arcs.{arc_count};
 
-use crate::Residual;
+use crate::{Place, Residual};
 use cut_model::{Link, Network, Steps};
 use std::marker::Brand;
 use std::sync::ledger::{Blank, Ledger};
@@ -50,7 +50,20 @@ fn what_a_push_leaves(rt: HostRuntime) -> Result<(), Fail> {
     assert_eq!(rt; graph.head(7), 2);
     assert_eq!(rt; graph.arcs_of(1), 5);
     assert_eq!(rt; graph.arc(1, 4), 7);
-    assert_eq!(rt; graph.arcs_out(1), [1, 3, 4, 5, 7].as_slice());
-    assert_eq!(rt; graph.heads_out(1), [0, 0, 1, 1, 2].as_slice());
+    let places = graph.places_of(1);
+    assert_eq!(rt; places.len(), 5);
+    assert_eq!(rt; places[1], Place { head: 0, arc: 3 });
+    assert_eq!(rt; graph.begin(1), 2);
+    assert_eq!(rt; graph.place(6), Place { head: 2, arc: 7 });
+    assert_eq!(rt; graph.begin(3), 8);
+    assert_eq!(rt; graph.around(1), 27);
+    graph.undo();
+    assert_eq!(rt; graph.flow_on(1), 0);
+    assert_eq!(rt; push_two(&mut graph), Some((1, 5)));
+    graph.load(&net);
+    assert_eq!(rt; push_two(&mut graph), Some((1, 5)));
+    let mut cursor = [9; 4];
+    graph.copy_begins(&mut cursor);
+    assert_eq!(rt; cursor, [0, 2, 7, 9]);
     Ok(())
 }
