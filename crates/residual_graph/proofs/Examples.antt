@@ -7,9 +7,11 @@ use Rattle.residual_graph.specs.Arcs.{tail_in, head_in, tail_of, head_of, arcs_f
 use Rattle.residual_graph.specs.Places.{arcs_below, begin_of, place_at}
 use Rattle.residual_graph.specs.View.{ResidualView, left_on, pushed}
 
+-- a link by its ends and its capacity
 joins : ℕ → ℕ → ℕ → Link
 joins a b cap = record { a = a; b = b; cap = cap }
 
+-- three routers, two parallel links, a link from router 1 to itself, and one from router 2
 small : Net
 unfolding joins
 small = record { routers = 3; links = joins 0 1 2 ∷ joins 0 1 3 ∷ joins 1 1 9 ∷ joins 2 1 4 ∷ [] }
@@ -19,10 +21,12 @@ held : ResidualView
 unfolding small
 held = record { room_routers = 3; room_links = 4; net = small; flow = pos 1 ∷ pos 0 ∷ pos 0 ∷ negsuc 3 ∷ [] }
 
+-- the arc there of the last link leaves router 2
 there : tail_of small 6 ≡ 2
 unfolding tail_in small joins
 there = refl
 
+-- its arc back goes there
 back : head_of small 7 ≡ 2
 unfolding head_in small joins
 back = refl
@@ -32,14 +36,17 @@ own_arcs : arcs_from small 1 ≡ 1 ∷ 3 ∷ 4 ∷ 5 ∷ 7 ∷ []
 unfolding arcs_from tail_in small joins
 own_arcs = refl
 
+-- of capacity 2, 1 is carried, so 1 is left on the arc there of the first link
 left_there : left_on held 0 ≡ pos 1
 unfolding left_on held small joins
 left_there = refl
 
+-- and 3 on its arc back
 left_back : left_on held 1 ≡ pos 3
 unfolding left_on held small joins
 left_back = refl
 
+-- nothing is left on the arc along which the last link is full
 nothing_left : left_on held 7 ≡ pos 0
 unfolding left_on held small joins
 nothing_left = refl

@@ -1,5 +1,6 @@
 -- The arcs that leave a router, as they are listed.
-use Rattle.std.proofs.Common.{◌≡◌, ◌≢◌, ℕ, zero, suc, ◌+◌, ◌/◌, ◌%◌, ◌<◌, ◌≤◌, Bool, true, List, [], ◌∷◌, length, get_or}
+use Rattle.std.proofs.Common.{◌≡◌, ◌≢◌, ℕ, zero, suc, ◌+◌, ◌/◌, ◌%◌, ◌<◌, ◌≤◌, Bool, true}
+use Rattle.std.proofs.Common.{List, [], ◌∷◌, length, get_or}
 use Rattle.std.proofs.Common.{arith, refl, inl, inr, sym, ap, subst, ◌∙◌, eq-eqb, ne_eqb}
 use Rattle.std.specs.Prelude.{◌==◌}
 use Rattle.std.specs.List.{All, filter, range_with_len}
@@ -87,11 +88,12 @@ few_arcs net router =
       length-range_with_len 0 (arc_count net),
     )
 
--- the arc there of a link goes to its end b, and the arc back to its end a
+-- the arc there of a link goes to its end b
 pub head-even : (net : Net) (arc : ℕ) → arc % 2 ≡ 0 → head_of net arc ≡ (get_or net.links (arc / 2) no_link).b
 unfolding head_in
 head-even net arc even = rw even refl
 
+-- and the arc back to its end a
 pub head-odd : (net : Net) (arc : ℕ) → arc % 2 ≢ 0 → head_of net arc ≡ (get_or net.links (arc / 2) no_link).a
 unfolding head_in
 head-odd net arc odd = rw (ne_eqb (arc % 2) 0 odd) refl

@@ -1,6 +1,7 @@
 -- What a push makes of what is left on the arcs, and what no flow leaves.
 use Rattle.std.proofs.Common.{◌≡◌, ◌≢◌, ℕ, ◌+◌, ◌-◌, ◌*◌, ◌/◌, ◌%◌, ◌^◌, ◌<◌, ◌≤◌, Bool, true, false, List, [], ◌∷◌}
-use Rattle.std.proofs.Common.{length, get_or, set, replicate, refl, sym, ap, ◌∙◌, subst, inl, inr, arith, length-append}
+use Rattle.std.proofs.Common.{length, get_or, set, replicate, refl, sym, ap, ◌∙◌, subst, inl, inr}
+use Rattle.std.proofs.Common.{arith, length-append}
 use Rattle.std.specs.Prelude.{ℤ, pos, neg_ℤ, ◌+ℤ◌, ◌-ℤ◌, All, nat_lt}
 use Rattle.std.specs.Int.RustNames.{bit_xor}
 use Rattle.std.specs.Int.Bits.{xor_zero_r}
@@ -21,20 +22,21 @@ use Rattle.residual_graph.proofs.Views.{there_or_back, length-flows_at, get_or-f
 
 -- ---- twins
 
--- a word's last bit turned
+-- the arc there with its last bit turned is the arc back
 pub twin_there : (i : ℕ) → bit_xor (2 * i) 1 ≡ 2 * i + 1
 twin_there i =
     let arc : 2 * i ≡ i * 2 ^ 1 + 0 = omega arith in
     ap (λ a. bit_xor a 1) arc ∙ xor_block 1 i 0 0 1 (omega arith) (omega arith)
     ∙ ap (λ n. n * 2 ^ 1 + 1) (xor_zero_r i) ∙ (omega arith)
 
+-- and the arc back with its last bit turned is the arc there
 pub twin_back : (i : ℕ) → bit_xor (2 * i + 1) 1 ≡ 2 * i
 twin_back i =
     let arc : 2 * i + 1 ≡ i * 2 ^ 1 + 1 = omega arith in
     ap (λ a. bit_xor a 1) arc ∙ xor_block 1 i 0 1 1 (omega arith) (omega arith)
     ∙ ap (λ n. n * 2 ^ 1 + 0) (xor_zero_r i) ∙ (omega arith)
 
--- is the twin of the arc that it stands for
+-- so an arc with its last bit turned is its twin
 pub xor_twin : (arc : ℕ) → bit_xor arc 1 ≡ twin arc
 unfolding twin
 xor_twin arc = elim (there_or_back arc) [
@@ -70,6 +72,7 @@ turned_inside false arc links low = low
 
 -- ---- what is left moves between the two arcs of a link
 
+-- On link j there and back are left now, together as much as before, and all other arcs have what they had.
 pub record IsMoved (left left' : List ℕ) (j there back : ℕ) : Type 0 where
   pub size : length left' ≡ length left
   pub there_is : get_or left' (2 * j) 0 ≡ there
@@ -134,7 +137,7 @@ moved_flows links left left' j there back moved low =
 
 -- ---- a push
 
--- along the arc there, and along the arc back
+-- along the arc there
 after_there : (left : List ℕ) (j amount : ℕ) → 2 * j + 1 < length left → amount ≤ get_or left (2 * j) 0
     → IsMoved left (after left (2 * j) (2 * j + 1) amount) j (get_or left (2 * j) 0 - amount)
     (get_or left (2 * j + 1) 0 + amount)
@@ -157,6 +160,7 @@ after_there left j amount within enough =
           ∙ get_or-set_other left (2 * j) k (get_or left (2 * j) 0 - amount) 0 not_there;
     }
 
+-- and along the arc back
 after_back : (left : List ℕ) (j amount : ℕ) → 2 * j + 1 < length left → amount ≤ get_or left (2 * j + 1) 0
     → IsMoved left (after left (2 * j + 1) (2 * j) amount) j (get_or left (2 * j) 0 + amount)
     (get_or left (2 * j + 1) 0 - amount)
@@ -179,7 +183,7 @@ after_back left j amount within enough =
           ∙ get_or-set_other left (2 * j + 1) k (get_or left (2 * j + 1) 0 - amount) 0 not_back;
     }
 
--- the flow is then one of the amount more along the arc
+-- the flow is then one of the amount more along the arc there
 pushed-there : (links : List Link) (left : List ℕ) (j amount : ℕ) → j < length links → amount ≤ get_or left (2 * j) 0
     → set (flows_at links left) j (pos (get_or links j no_link).cap -ℤ pos (get_or left (2 * j) 0 - amount))
     ≡ pushed (flows_at links left) (2 * j) amount
@@ -193,6 +197,7 @@ pushed-there links left j amount low enough =
     more_there : (c x amount : ℕ) → amount ≤ x → (pos c -ℤ pos (x - amount)) ≡ ((pos c -ℤ pos x) +ℤ pos amount)
     more_there c x amount enough = omega (arith, ints)
 
+-- or along the arc back
 pushed-back : (links : List Link) (left : List ℕ) (j amount : ℕ) → j < length links
     → set (flows_at links left) j (pos (get_or links j no_link).cap -ℤ pos (get_or left (2 * j) 0 + amount))
     ≡ pushed (flows_at links left) (2 * j + 1) amount
@@ -217,6 +222,7 @@ pub record IsPush (links : List Link) (left : List ℕ) (j arc other amount : �
   pub caps : (i : ℕ) → i ≢ j → HasCap links left i → HasCap links (after left arc other amount) i
   pub differ : get_or left arc 0 ≢ get_or left other 0 → HasCap links left j → ⊥
 
+-- a push along the arc there
 push_there : (links : List Link) (left : List ℕ) (j amount : ℕ) → ArePairs links left
     → (get_or links j no_link).cap ≤ 1000000000000 → j < length links → 2 * length links ≤ length left
     → amount ≤ get_or left (2 * j) 0 → IsPush links left j (2 * j) (2 * j + 1) amount
@@ -232,6 +238,7 @@ push_there links left j amount pairs cap low fits enough =
       differ = λ ne has. ne (has.there ∙ sym has.back);
     }
 
+-- a push along the arc back
 push_back : (links : List Link) (left : List ℕ) (j amount : ℕ) → ArePairs links left
     → (get_or links j no_link).cap ≤ 1000000000000 → j < length links → 2 * length links ≤ length left
     → amount ≤ get_or left (2 * j + 1) 0 → IsPush links left j (2 * j + 1) (2 * j) amount

@@ -11,16 +11,18 @@ use Rattle.residual_graph.specs.Fills.{HasCap, HasCapsBut}
 abbrev pub with_pair : List ℕ → ℕ → ℕ → ℕ → List ℕ
 with_pair xs i x y = set (set xs (2 * i) x) (2 * i + 1) y
 
--- there they stand, and all others stay
+-- the first of them stands at its place
 pair-first : (xs : List ℕ) (i x y : ℕ) → 2 * i + 1 < length xs → get_or (with_pair xs i x y) (2 * i) 0 ≡ x
 pair-first xs i x y within =
     get_or-set_other (set xs (2 * i) x) (2 * i + 1) (2 * i) y 0 (λ e. omega arith)
     ∙ get_or-set_same xs (2 * i) x 0 (omega arith)
 
+-- so does the second
 pair-second : (xs : List ℕ) (i x y : ℕ) → 2 * i + 1 < length xs → get_or (with_pair xs i x y) (2 * i + 1) 0 ≡ y
 pair-second xs i x y within = get_or-set_same (set xs (2 * i) x) (2 * i + 1) y 0
     (omega (arith, length-set xs (2 * i) x))
 
+-- and all others stay
 pair-other : (xs : List ℕ) (i x y j : ℕ) → j ≢ 2 * i → j ≢ 2 * i + 1 → get_or (with_pair xs i x y) j 0 ≡ get_or xs j 0
 pair-other xs i x y j here there =
     get_or-set_other (set xs (2 * i) x) (2 * i + 1) j y 0 there ∙ get_or-set_other xs (2 * i) j x 0 here

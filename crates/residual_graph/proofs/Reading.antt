@@ -38,6 +38,7 @@ pub length-kept : {room_routers room_links routers links : ℕ} {first : List �
 length-kept {links = links} {kept = kept} stored =
     length-take-le links kept (omega (arith, stored.links_fit, stored.kept_room))
 
+-- stored lists are of the view that they mean
 pub is_of : {room_routers room_links routers links : ℕ} {first : List ℕ} {places : List Place} {kept : List Link}
     {left : List ℕ} {touched : Touches}
     → IsStored room_routers room_links routers links first places kept left touched
@@ -84,6 +85,7 @@ pub record IsBegin (first : List ℕ) (net : Net) (router : ℕ) : Type 0 where
   pub is : get_or first router 0 ≡ begin_of net router
   pub most : get_or first router 0 ≤ arc_count net
 
+-- it is stored, behind the last router too
 pub begin_is : {routers links : ℕ} {first : List ℕ} {places : List Place} {kept : List Link} {left : List ℕ}
     {view : ResidualView} → IsOf routers links first places kept left view → (router : ℕ) → router ≤ view.net.routers
     → IsBegin first view.net router
@@ -141,8 +143,9 @@ pub record IsFlowAt (kept : List Link) (left : List ℕ) (view : ResidualView) (
   pub cap : (get_or kept i no_link).cap ≤ 1000000000000
   pub most : get_or left (2 * i) 0 ≤ 2000000000000
 
-pub flow_at_link : {room_routers room_links routers links : ℕ} {first : List ℕ} {places : List Place} {kept : List Link}
-    {left : List ℕ} {touched : Touches}
+-- they are stored so
+pub flow_at_link : {room_routers room_links routers links : ℕ} {first : List ℕ} {places : List Place}
+    {kept : List Link} {left : List ℕ} {touched : Touches}
     → IsStored room_routers room_links routers links first places kept left touched
     → (view : ResidualView) → view_of room_routers room_links routers (take links kept) left ≡ view
     → (i : ℕ) → i < length view.net.links → IsFlowAt kept left view i
@@ -155,7 +158,8 @@ flow_at_link {room_routers} {room_links} {routers} {links} {first} {places} {kep
     subst (λ (l : Link). l.cap ≤ 1000000000000) same (stored.limits.within i no_link inside).cap in record {
       is = ap (λ (l : Link). pos l.cap -ℤ pos (get_or left (2 * i) 0)) (sym same)
           ∙ sym (get_or-flows_at (take links kept) left i inside)
-          ∙ ap (λ flow. get_or flow i (pos 0)) (flow_is room_routers room_links routers (take links kept) left view is);
+          ∙ ap (λ flow. get_or flow i (pos 0))
+          (flow_is room_routers room_links routers (take links kept) left view is);
       cap = cap;
       most = omega (arith, cap, stored.pairs i inside, ap (λ (l : Link). l.cap) same);
     }

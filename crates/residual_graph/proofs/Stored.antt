@@ -42,6 +42,7 @@ pub record PushAt (room_routers room_links routers links : ℕ) (first : List �
       view_of room_routers room_links routers (take links kept) (after left arc (bit_xor arc 1) amount)
       ≡ record view { flow = pushed view.flow arc amount }
 
+-- a push as the contract asks for it
 pub push_at : {room_routers room_links routers links : ℕ} {first : List ℕ} {places : List Place} {kept : List Link}
     {left : List ℕ} {touched : Touches}
     → IsStored room_routers room_links routers links first places kept left touched
@@ -115,7 +116,8 @@ pub undone_view : (room_routers room_links routers : ℕ) (links : List Link) (l
     ≡ record view { flow = replicate (length view.net.links) (pos 0) }
 unfolding view_of
 undone_view room_routers room_links routers links left left' view is caps =
-    ap (λ flow. record (view_of room_routers room_links routers links left) { flow = flow }) (caps_flows links left' caps)
+    ap (λ flow. record (view_of room_routers room_links routers links left) { flow = flow })
+    (caps_flows links left' caps)
     ∙ ap (λ (v : ResidualView). record v { flow = replicate (length v.net.links) (pos 0) }) is
 
 -- a network with the same number of routers is held just where its links are
@@ -176,6 +178,7 @@ pub record IsStill (room_routers room_links : ℕ) (net : Net) (view : ResidualV
   pub net_is : view.net ≡ net
   pub flow_is : view.flow ≡ replicate (length net.links) (pos 0)
 
+-- that is what they see of fresh lists
 pub fresh_view : {room_routers room_links routers links : ℕ} {first : List ℕ} {places : List Place}
     {kept : List Link} {left : List ℕ} {touched : Touches} {net : Net}
     → IsFresh room_routers room_links routers links first places kept left touched net

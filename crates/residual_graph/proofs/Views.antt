@@ -28,10 +28,11 @@ get_or-flows_at links left i low =
 
 -- ---- what is left on an arc
 
--- the capacity less the flow there, or more by it back, is what is left
+-- the capacity less the flow is what is left there
 left_there : (c x : ℕ) → (pos c -ℤ (pos c -ℤ pos x)) ≡ pos x
 left_there c x = omega (arith, ints)
 
+-- and the capacity more by it is what is left back
 left_back : (c x y : ℕ) → x + y ≡ 2 * c → (pos c +ℤ (pos c -ℤ pos x)) ≡ pos y
 left_back c x y both = omega (arith, ints)
 
@@ -78,7 +79,8 @@ left_is room_routers room_links routers links left pairs arc low = elim (there_o
 -- ---- the flow is within the capacities
 
 -- link by link
-within_by : (f : List Link) (g : ℕ → ℤ) (a : ℕ) → ((i : ℕ) → i < length f → nat_abs (g (a + i)) ≤ (get_or f i no_link).cap)
+within_by : (f : List Link) (g : ℕ → ℤ) (a : ℕ)
+    → ((i : ℕ) → i < length f → nat_abs (g (a + i)) ≤ (get_or f i no_link).cap)
     → IsWithinCaps f (map g (range_with_len a (length f)))
 within_by [] g a each = tt
 within_by (link ∷ links) g a each =
@@ -93,25 +95,31 @@ within_by (link ∷ links) g a each =
 abs_within : (c x y : ℕ) → x + y ≡ 2 * c → nat_abs (pos c -ℤ pos x) ≤ c
 abs_within c x y both = omega (arith, ints)
 
+-- so all flows are within the capacities
 pub flows_within : (links : List Link) (left : List ℕ) → ArePairs links left → IsWithinCaps links (flows_at links left)
 unfolding flows_at
 flows_within links left pairs =
     within_by links (flow_at links left) 0 (λ i low.
     let same : 0 + i ≡ i = omega arith in
-    rw same (abs_within (get_or links i no_link).cap (get_or left (2 * i) 0) (get_or left (2 * i + 1) 0) (pairs i low)))
+    rw same (abs_within (get_or links i no_link).cap (get_or left (2 * i) 0) (get_or left (2 * i + 1) 0)
+    (pairs i low)))
 
 -- ---- the parts of a view
 
+-- its network
 pub net_is : (room_routers room_links routers : ℕ) (links : List Link) (left : List ℕ) (view : ResidualView)
-    → view_of room_routers room_links routers links left ≡ view → record { routers = routers; links = links } ≡ view.net
+    → view_of room_routers room_links routers links left ≡ view
+    → record { routers = routers; links = links } ≡ view.net
 unfolding view_of
 net_is room_routers room_links routers links left view e = ap (λ (v : ResidualView). v.net) e
 
+-- its flow
 pub flow_is : (room_routers room_links routers : ℕ) (links : List Link) (left : List ℕ) (view : ResidualView)
     → view_of room_routers room_links routers links left ≡ view → flows_at links left ≡ view.flow
 unfolding view_of
 flow_is room_routers room_links routers links left view e = ap (λ (v : ResidualView). v.flow) e
 
+-- its room
 pub rooms_are : (room_routers room_links routers : ℕ) (links : List Link) (left : List ℕ) (view : ResidualView)
     → view_of room_routers room_links routers links left ≡ view
     → (room_routers ≡ view.room_routers) × (room_links ≡ view.room_links)

@@ -7,16 +7,19 @@ use Rattle.std.proofs.lemmas.Nat.{le_or_l, le_or_r}
 use Rattle.std.proofs.lemmas.Nat.Bits.{bit_at_xor, bit_at-zero, same_from_bits_below}
 use Rattle.cut_model.specs.declared.network.Link.{Link}
 
--- where no bit of two words together is set, none of either is
+-- where no bit of two words together is set, none of the first is
 pub none_left : (a b : ℕ) → bit_or a b ≡ 0 → a ≡ 0
 none_left a b none = omega (arith, le_or_l a b, none)
 
+-- and none of the second
 pub none_right : (a b : ℕ) → bit_or a b ≡ 0 → b ≡ 0
 none_right a b none = omega (arith, le_or_r a b, none)
 
+-- bits with an even sum are equal
 even_sum : (x y : ℕ) → x < 2 → y < 2 → (x + y) % 2 ≡ 0 → x ≡ y
 even_sum x y small low even = omega arith
 
+-- a bit is 0 or 1
 bit_small : (a i : ℕ) → bit_at a i < 2
 bit_small a i = omega arith
 

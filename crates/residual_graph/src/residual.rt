@@ -228,13 +228,14 @@ impl Residual {
         group(&self.first, &self.places, router)
     }
 
-    /// The number of the places of all routers below one, which is that of the router's first place.
-    /// For the number of routers it is the number of arcs.
+    /// The number of a router's first place among the places of all routers, one router's behind
+    /// another's. For the number of routers it is the number of arcs.
     #[inline]
     pub fn begin(&self, router: u32) -> u32
         requires { router ≤ self.now.net.routers }
         ensures value { result ≡ begin_of self.now.net router }
         ensures most { result ≤ arc_count self.now.net }
+        ensures end { begin_of self.now.net self.now.net.routers ≡ arc_count self.now.net }
     {
         self.first[router as usize]
     }
@@ -245,6 +246,9 @@ impl Residual {
     pub fn place(&self, at: u32) -> Place
         requires { at < arc_count self.now.net }
         ensures value { result ≡ place_at self.now.net at }
+        ensures nth { (router i : ℕ) → router < self.now.net.routers → i < length (arcs_from self.now.net router) →
+            at ≡ begin_of self.now.net router + i →
+            result ≡ slice_index_or (places_from self.now.net router) i no_place }
         ensures arc { result.arc < arc_count self.now.net }
         ensures head { result.head < self.now.net.routers }
         ensures sound { IsSound self.now }

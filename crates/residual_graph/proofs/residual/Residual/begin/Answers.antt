@@ -1,5 +1,6 @@
 use Rattle.std.proofs.Common.{◌∙◌, length, refl, arith}
 use Rattle.std.proofs.lemmas.List.{get_or_read_under}
+use Rattle.residual_graph.proofs.ByPlace.{begin-end}
 use Rattle.residual_graph.proofs.Reading.{is_of, begin_is}
 use Rattle.residual_graph.proofs.residual.Residual.begin.Goals as goal
 
@@ -19,3 +20,7 @@ returns-clause-most c =
     let at = get_or_read_under c.self.inside.first.items c.args.router (length c.self.inside.first.items) _ 0
     c.index.ensures (omega (arith, of.first_fits)) refl in
     omega (arith, at, (begin_is of c.args.router c.requires).most)
+
+pub returns-clause-end : goal.returns-clause-end
+returns-clause-end c =
+    begin-end c.args.self.now.net (is_of c.self.invariant c.args.self.now c.self.view_is).limits

@@ -1,7 +1,7 @@
-use Rattle.std.proofs.Common.{ℕ, ◌∙◌, length, refl, sym, subst, arith}
+use Rattle.std.proofs.Common.{ℕ, ◌∙◌, length, refl, sym, ap, subst, arith}
 use Rattle.std.proofs.lemmas.List.{get_or_read_under}
-use Rattle.residual_graph.specs.Places.{IsPlaceOf, no_place}
-use Rattle.residual_graph.proofs.ByPlace.{between-is, router-of}
+use Rattle.residual_graph.specs.Places.{IsPlaceOf, no_place, place_at}
+use Rattle.residual_graph.proofs.ByPlace.{between-is, place-at, router-of}
 use Rattle.residual_graph.proofs.Reading.{is_of, place_is, sound_of}
 use Rattle.residual_graph.proofs.residual.Residual.place.Goals as goal
 
@@ -14,6 +14,10 @@ returns-clause-value c =
     get_or_read_under c.self.inside.places.items c.args.at (length c.self.inside.places.items) _ no_place
     c.index.ensures (omega (arith, of.places_fit)) refl
     ∙ place_is of c.args.at c.requires
+
+pub returns-clause-nth : goal.returns-clause-nth
+returns-clause-nth c = λ router i low within is.
+    returns-clause-value c ∙ ap (place_at c.args.self.now.net) is ∙ place-at c.args.self.now.net router i low within
 
 -- the place is one of an arc that leaves some router
 at_router : (c : goal.After-result-1) → (router : ℕ) × IsPlaceOf c.args.self.now.net router c.index.result.now
