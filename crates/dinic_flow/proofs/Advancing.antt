@@ -18,9 +18,15 @@ use Rattle.dinic_flow.specs.Phases.{IsSpent, IsBlocked, HasCome, IsPhase, Sends,
 cursor-moved : (cursor : List ℕ) (router v r : ℕ) → router < length cursor → get_or cursor router 0 ≤ v →
     (get_or cursor r 0 ≤ get_or (set cursor router v) r 0) × (r ≢ router → get_or (set cursor router v) r 0 ≡ get_or cursor r 0)
 cursor-moved cursor router v r within later = elim (cases_eq r router) [
-  | inl same ↦
-      (omega (arith, ap (λ (x : ℕ). get_or cursor x 0) same, ap (λ (x : ℕ). get_or (set cursor router v) x 0) same,
-      get_or-set_same cursor router v 0 within), λ apart. absurd (apart same))
+  | inl same ↦ (
+    omega (
+      arith,
+      ap (λ (x : ℕ). get_or cursor x 0) same,
+      ap (λ (x : ℕ). get_or (set cursor router v) x 0) same,
+      get_or-set_same cursor router v 0 within,
+    ),
+    λ apart. absurd (apart same),
+  )
   | inr apart ↦
       let other = get_or-set_other cursor router r v 0 apart in
       (omega (arith, other), λ _. other)

@@ -50,12 +50,12 @@ labelled view least t label levelled some zero u is steep =
 labelled view least t label levelled some (suc arcs) u (w, arc, rest) steep = elim (cases_eq (get_or label u 0) 0) [
   | inr ne ↦ omega arith
   | inl none ↦ absurd (omega (
-      arith,
-      climbs view least t label levelled some arcs w rest,
-      arc-stays view least t u w label levelled arc none,
-      height-none levelled.mid label u none,
-      steep,
-    ))
+    arith,
+    climbs view least t label levelled some arcs w rest,
+    arc-stays view least t u w label levelled arc none,
+    height-none levelled.mid label u none,
+    steep,
+  ))
 ]
 
 closed-open : (x : ℤ) (least : ℕ) → x <ℤ pos least → pos least ≤ℤ x → ⊥

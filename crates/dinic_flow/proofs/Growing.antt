@@ -74,7 +74,7 @@ pub grows-on : (before between after : ResidualView) (least s t value next phase
     sent ≤ searched + 2 * ((get_or label t 0 - 1) * (arc_count between.net + 1)) →
     HasGrown before after least s t next (phases + 1) earlier sent
 grows-on before between after least s t value next phases earlier steps searched sent distance label old joined
-  looked same sound flow far cost =
+    looked same sound flow far cost =
     let net : after.net ≡ between.net = ap (λ (v : ResidualView). v.net) same in
     let arcs : ℕ = arc_count between.net in
     let top : get_or label t 0 - 1 ≡ distance = omega (arith, joined.end) in

@@ -189,6 +189,7 @@ sends-none links flow router t r =
       | inl e ↦ rw e refl
       | inr e ↦ rw e refl
     ]
+
     none : (o a b : ℤ) → a ≡ pos 0 → b ≡ pos 0 → o ≡ ((o +ℤ a) -ℤ b)
     none o a b first second = omega (arith, ints, first, second)
 

@@ -49,11 +49,11 @@ apart-least view s t k reached side sound small flow apart held =
       | inr not ↦ not
     ] in
     let closed : IsClosed (set_of side) view.net.links view.flow = λ u v in_side leads.
-        let arc : OpenArc view 1 u v = leads-arc view u v leads in
-        let from : Contains reached u = (held u).0 in_side in
-        let to = apart.closed arc.arc arc.within arc.is_open (subst (λ (r : ℕ). Contains reached r) (sym arc.tail) from) in
-        (held v).1 (subst (λ (r : ℕ). Contains reached r) arc.head to) in
+    let arc : OpenArc view 1 u v = leads-arc view u v leads in
+    let from : Contains reached u = (held u).0 in_side in
+    let to = apart.closed arc.arc arc.within arc.is_open (subst (λ (r : ℕ). Contains reached r) (sym arc.tail) from) in
+    (held v).1 (subst (λ (r : ℕ). Contains reached r) arc.head to) in
     reached_least view.net sound.limits s t view.flow k small flow (set_of side) ((held s).1 apart.holds) lacks closed
     (λ r below in_side.
-        let (arcs, walk) = apart.walks r ((held r).0 in_side) in
-        walk-reached view s even arcs r walk)
+    let (arcs, walk) = apart.walks r ((held r).0 in_side) in
+    walk-reached view s even arcs r walk)

@@ -138,7 +138,17 @@ pub fn send<L: Ledger>(
     let end = graph.begin(router + 1);
     let mut sent = 0u64;
     for at in cursor[router as usize]..end {
-        sent += send_over(graph, at, next, t, limit - sent, least, label, cursor, steps);
+        sent += send_over(
+            graph,
+            at,
+            next,
+            t,
+            limit - sent,
+            least,
+            label,
+            cursor,
+            steps,
+        );
         if sent == limit {
             cursor[router as usize] = at;
             return sent;

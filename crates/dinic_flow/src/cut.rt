@@ -57,9 +57,7 @@ fn coarse_flow<L: Ledger>(
         + 3 * length graph.old.net.links * graph.old.net.routers * graph.old.net.routers }
 {
     if least > 1 {
-        max_flow(
-            graph, s, t, least, 0, label, cursor, ahead, behind, steps,
-        )
+        max_flow(graph, s, t, least, 0, label, cursor, ahead, behind, steps)
     } else {
         Flow {
             value: 0,

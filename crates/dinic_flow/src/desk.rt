@@ -39,9 +39,9 @@ impl Model for FlowDesk {
     ghost Value = { DeskView };
 
     ghost view = { λ d. record {
-        room = record { routers = d.routers; links = d.links };
-        net = d.graph.net;
-        flow = d.graph.flow;
+      room = record { routers = d.routers; links = d.links };
+      net = d.graph.net;
+      flow = d.graph.flow;
     } };
 
     ghost use Rattle.dinic_flow.specs.Desk.{IsEquipped};
@@ -116,13 +116,7 @@ impl FlowDesk {
     }
 
     /// The value of a least cut of `s` from `t` in a network that is held without a flow.
-    fn cut_still<L: Ledger>(
-        &mut self,
-        s: u32,
-        t: u32,
-        side: &mut Side,
-        steps: &mut Steps<L>,
-    ) -> u64
+    fn cut_still<L: Ledger>(&mut self, s: u32, t: u32, side: &mut Side, steps: &mut Steps<L>) -> u64
         requires still { self.old.flow ≡ replicate (length self.old.net.links) (pos 0) }
         requires differ { s ≢ t }
         requires s { s < self.old.net.routers }
