@@ -131,7 +131,8 @@ twin-within net arc within = omega (arith, (twin-ends net arc).1)
 
 -- A spent router that an arc goes to isn't t, whose cursor is at its first place.
 pub unspent : (view : ResidualView) (least t : ℕ) (label cursor : List ℕ) (arc : ℕ) →
-    IsPhase view least t label cursor → arc < arc_count view.net → IsSpent view.net cursor (head_of view.net arc) → head_of view.net arc ≢ t
+    IsPhase view least t label cursor → arc < arc_count view.net →
+    IsSpent view.net cursor (head_of view.net arc) → head_of view.net arc ≢ t
 unspent view least t label cursor arc phase within spent is =
     let net : Net = view.net in
     let other : ℕ = twin arc in

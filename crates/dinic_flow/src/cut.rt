@@ -69,8 +69,8 @@ fn coarse_flow<L: Ledger>(
 }
 
 /// A least cut of `s` from `t` in a graph without a flow, whose least side goes into `side`. Flow
-/// is first sent over the arcs that have at least `least` left, and then over all that have any. The
-/// four lists have room for all routers; what they hold before and afterwards means nothing.
+/// is first sent over the arcs that have at least `least` left, and then over all that have any.
+/// The four lists have room for all routers; what they hold before and afterwards means nothing.
 pub fn least_side<L: Ledger>(
     graph: &mut Residual,
     s: u32,

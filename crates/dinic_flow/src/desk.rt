@@ -149,8 +149,8 @@ impl FlowDesk {
 
     /// The value of a least cut of `s` from `t`. Afterwards `side` holds the least side of `s`,
     /// which is a part of every other side of such a cut, whatever it held before, and the desk
-    /// holds a greatest flow from `s` to `t`. With n routers and m links it looks at what is left on
-    /// an arc, or pushes, at most 6mn² times (Dinic, 1970). It takes no memory.
+    /// holds a greatest flow from `s` to `t`. With n routers and m links it looks at what is left
+    /// on an arc, or pushes, at most 6mn² times (Dinic, 1970). It takes no memory.
     pub fn least_cut<L: Ledger>(
         &mut self,
         net: &Network,

@@ -74,7 +74,8 @@ send_over-returns-clause-blocked g t c =
     c.send_on-sent.new.cursor c.args.label.now arc c.args.least c.args.t c.left-left.result c.min-most.result
     c.args.limit c.send_on-sent.result over c.requires.least left c.min-most.ensures c.send_on-sent.ensures.most
     (subst (λ (r : ℕ). c.send_on-sent.result < c.min-most.result →
-    (r ≢ c.args.t) × IsSpent c.send_on-sent.new.graph.net c.send_on-sent.new.cursor r) head c.send_on-sent.ensures.spent)
+    (r ≢ c.args.t) × IsSpent c.send_on-sent.new.graph.net c.send_on-sent.new.cursor r)
+    head c.send_on-sent.ensures.spent)
 
 pub send-send_over-sent-requires : goal.send-send_over-sent-requires
 send-send_over-sent-requires g t c κs within =
@@ -187,9 +188,9 @@ send-loop-at-preserved g t c =
       passing = passing-on start after c.args.least router c.args.t (c.loop-at.sent + c.send_over-sent.result) label
           first new at more blocked;
       some = omega arith;
-      paid = pays-place (get_or label c.args.t 0 - (get_or label router 0 + 1)) (sum first) (sum c.loop-at.cursor) (sum new)
-          (get_or first router 0) at c.args.steps.now c.loop-at.steps c.send_over-sent.new.steps c.loop-at.invariant.paid
-          c.send_over-sent.ensures.cost;
+      paid = pays-place (get_or label c.args.t 0 - (get_or label router 0 + 1)) (sum first) (sum c.loop-at.cursor)
+          (sum new) (get_or first router 0) at c.args.steps.now c.loop-at.steps c.send_over-sent.new.steps
+          c.loop-at.invariant.paid c.send_over-sent.ensures.cost;
     }
 
 pub send-returns-clause-phase : goal.send-returns-clause-phase
