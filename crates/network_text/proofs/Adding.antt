@@ -45,6 +45,7 @@ with_link-capped draft first second cap =
           ap (λ n. with_link draft first second n) same
     ]
 
+-- The same of the number that may stand in its place.
 with_capacity-capped : (draft : Draft) (first second : List ℕ) (number : Option ℕ) (cap : ℕ)
     → Some cap ≡ option_map (min (2 ^ 64 - 1)) number
     → with_capacity draft first second number ≡ with_link draft first second cap
