@@ -1,6 +1,6 @@
 -- A flow that grows phase by phase: how far t is, and what that cost.
 use Rattle.std.proofs.Common.{◌≡◌, ◌≢◌, ℕ, zero, suc, ◌+◌, ◌-◌, ◌*◌, ◌<◌, ◌≤◌, List, get_or}
-use Rattle.std.proofs.Common.{◌∙◌, ap, arith, refl, inl, inr, mul-le-mul_left}
+use Rattle.std.proofs.Common.{◌∙◌, ap, arith, inl, inr, mul-le-mul_left}
 use Rattle.std.proofs.lemmas.Bool.{cases_lt}
 use Rattle.cut_model.specs.Flow.{IsFlow}
 use Rattle.residual_graph.specs.Arcs.{arc_count}

@@ -5,7 +5,7 @@ use Rattle.std.specs.Prelude.{pos}
 use Rattle.cut_model.specs.Net.{Net}
 use Rattle.residual_graph.specs.declared.place.Place.{Place}
 use Rattle.residual_graph.specs.Arcs.{tail_of, head_of, arc_count}
-use Rattle.residual_graph.specs.Places.{begin_of, place_at}
+use Rattle.residual_graph.specs.Places.{place_at}
 use Rattle.residual_graph.specs.View.{ResidualView, left_on}
 use Rattle.dinic_flow.specs.Phases.{IsSpent, IsBlocked}
 use Rattle.dinic_flow.proofs.Relays.{is_over, over-sends, over-blocked, phase-push, place_at-head}
