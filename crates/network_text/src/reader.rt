@@ -50,7 +50,8 @@ impl Reader {
     /// A reader before the first line.
     ///
     /// # Errors
-    /// [`NoMemory`] where memory was wanted, though today it takes none.
+    /// [`NoMemory`] where memory was wanted. A reader that begins takes none as it is built, and its
+    /// caller need not rely on that.
     pub fn begin(alloc: Global) -> Result<Reader, NoMemory>
         ensures { IfOk result (λ reader. reader ≡ record { progress = at_start; ended = false }) }
     {

@@ -79,7 +79,7 @@ impl From<SessionEnd> for Status {
     }
 }
 
-/// Runs the command that the words name; for now `plan` alone, one session over the source and the
+/// Runs the command that the words name. It is `plan`: one session over the source and the
 /// sink.
 ///
 /// The session reads request lines to the end of the input or to BYE, and puts one reply for each
