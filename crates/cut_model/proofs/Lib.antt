@@ -3,4 +3,5 @@ pub mod Duality
 pub mod Closed
 pub mod Faults
 pub mod Links
+pub mod Terminals
 pub mod Examples
