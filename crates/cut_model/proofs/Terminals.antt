@@ -1,16 +1,9 @@
 -- Terminals are counted, and the root is one.
-use Rattle.std.proofs.Common.{◌≡◌, ℕ, zero, suc, ◌<◌, true, refl, arith}
+use Rattle.std.proofs.Common.{◌≡◌, ℕ, ◌<◌}
 use Rattle.std.proofs.lemmas.Bool.{lt-ltb, ltb-true}
 use Rattle.cut_model.specs.Net.{Net, IsInLimits}
-use Rattle.cut_model.specs.Cuts.{RouterSet}
-use Rattle.cut_model.specs.Terminals.{number_in, is_terminal, IsTerminal, terminal_count, root_of}
-
--- where all numbers below n are in a set, it holds n of them
-pub number_in-all : (X : RouterSet) (n : ℕ) → ((r : ℕ) → r < n → X r ≡ true) → number_in X n ≡ n
-unfolding number_in
-number_in-all X zero all = refl
-number_in-all X (suc n) all =
-    rw (all n (omega arith)) (omega (arith, number_in-all X n (λ r low. all r (omega arith))))
+use Rattle.cut_model.specs.Terminals.{is_terminal, IsTerminal, terminal_count, root_of}
+use Rattle.cut_model.proofs.Counting.{number_in-all}
 
 -- each router is a terminal
 pub all_terminals : (net : Net) (r : ℕ) → r < net.routers → IsTerminal net r
