@@ -2,5 +2,6 @@
 #![tactic(auto)]
 
 mod entry;
+mod tables;
 
 pub use entry::Entry;
