@@ -1,3 +1,4 @@
 pub mod Histories
 pub mod Ranges
 pub mod Words
+pub mod Written

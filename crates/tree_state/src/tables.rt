@@ -48,3 +48,43 @@ fn move_children(up: &mut [u32], s: u32, t: u32, side: &Side)
         }
     }
 }
+
+/// Whether a commit at `t` takes its place: `t` isn't the root, and the side has the router above it.
+fn swaps(up: &[u32], root: u32, t: u32, side: &Side) -> bool
+    requires t { t < length up.now }
+    requires above { slice_index up.now t < length side.now }
+    ensures { result ≡ swaps root (slice_index up.now) t (set_of side.now) }
+{
+    t != root && side.has(up[t as usize])
+}
+
+/// Changes the tables by the commit of a least cut (Gusfield, 1990): the routers of its side that hung
+/// from its neighbour hang from its router, and where the side has the router above the neighbour
+/// too, the two change places. The time is the number of routers, or a 64th of it where the side's
+/// words are empty.
+pub fn commit_tables(up: &mut [u32], width: &mut [u64], root: u32, cut: &LeastCut)
+    requires ups { length up.old ≡ cut.now.net.routers }
+    requires widths { length width.old ≡ cut.now.net.routers }
+    requires above { slice_index up.old cut.now.neighbour < cut.now.net.routers }
+    ensures up { EachIndex up.new (λ i. slice_index up.new i ≡
+        up_after root (slice_index up.old) cut.now.router cut.now.neighbour (set_of cut.now.side) i) }
+    ensures width { EachIndex width.new (λ i. slice_index width.new i ≡
+        width_after root (slice_index up.old) (slice_index width.old) cut.now.router cut.now.neighbour cut.now.value (set_of cut.now.side) i) }
+{
+    let s = cut.router();
+    let t = cut.neighbour();
+    let side = cut.side();
+    let value = cut.value();
+    let above = up[t as usize];
+    let swaps = swaps(up, root, t, side);
+    move_children(up, s, t, side);
+    if swaps {
+        up[s as usize] = above;
+        width[s as usize] = width[t as usize];
+        up[t as usize] = s;
+        width[t as usize] = value;
+    } else {
+        up[s as usize] = t;
+        width[s as usize] = value;
+    }
+}
