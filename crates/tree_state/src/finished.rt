@@ -1,7 +1,7 @@
 //! The tree when it is complete.
 ghost use Rattle.std.specs.Prelude.{◌≡◌, ◌<◌, Some, length, slice_get};
 ghost use Rattle.std.specs.Arc.{arc_value};
-ghost use Rattle.cut_model.specs.Terminals.{root_of};
+ghost use Rattle.cut_model.specs.Terminals.{IsTerminal, root_of};
 ghost use Rattle.tree_state.specs.History.{tables, AllEntered, IsComplete};
 
 use crate::entry::Entry;
@@ -51,6 +51,7 @@ impl Finished {
     /// The root: the terminal of smallest number.
     pub fn root(&self) -> u32
         ensures value { result ≡ root_of self.now.net }
+        ensures terminal { IsTerminal self.now.net result }
         ensures within { result < self.now.net.routers }
     {
         self.grown.net().root()

@@ -85,7 +85,7 @@ impl Growing {
         self.up[s as usize]
     }
 
-    /// The width of the edge from `s` to the router above it, 0 where `s` wasn't committed.
+    /// The width of the edge from `s` to the router above it.
     #[inline]
     pub(crate) fn width(&self, s: u32) -> u64
         requires { s < self.now.net.routers }
