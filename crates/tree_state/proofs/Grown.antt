@@ -111,7 +111,8 @@ grown_push net up width next_up next_width done history entry limits g may after
       (tables (root_of net) history).width entry.router entry.neighbour entry.value (set_of entry.side) i
       (g.up_is entry.neighbour neighbour_in) (g.width_is i low) (g.width_is entry.neighbour neighbour_in)
       ∙ ap (λ (T : Tables). T.width i) (sym (tables-push (root_of net) history entry));
-  done_is = λ i low. done_push done history entry net.routers i g.marks low (g.done_is i low) (cases_eq i entry.router);
+  done_is = λ i low.
+      done_push done history entry net.routers i g.marks low (g.done_is i low) (cases_eq i entry.router);
   legal = legal_push net history entry g.legal may;
 }
   where
