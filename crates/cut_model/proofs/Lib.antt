@@ -4,4 +4,6 @@ pub mod Closed
 pub mod Reached
 pub mod Faults
 pub mod Links
+pub mod Counting
+pub mod Terminals
 pub mod Examples
