@@ -1,0 +1,52 @@
+// The yardstick that others wrote: LEMON's `Preflow`, a push-relabel method, for the same least cuts.
+//
+// usage: lemon_preflow ROUNDS < TEXT
+//
+// In its favour, links that join the same two routers are merged and those from a router to itself
+// are left out, before any cut; its graph is the one without changes, whose arcs lie side by side;
+// and it makes the least cut alone, without the flow that shows it.
+#include "network_text.hpp"
+
+#include <algorithm>
+#include <map>
+
+#include <lemon/preflow.h>
+#include <lemon/static_graph.h>
+
+class LemonPreflow {
+  public:
+    explicit LemonPreflow(const Network &network) : capacity(graph) {
+        std::map<std::pair<uint32_t, uint32_t>, int64_t> arcs;
+        for (const Link &link : network.links) {
+            if (link.a != link.b) {
+                arcs[{link.a, link.b}] += link.capacity;
+                arcs[{link.b, link.a}] += link.capacity;
+            }
+        }
+        std::vector<std::pair<int, int>> ends;
+        for (const auto &[pair, amount] : arcs) {
+            ends.emplace_back(pair.first, pair.second);
+        }
+        graph.build(network.routers, ends.begin(), ends.end());
+        int arc = 0;
+        for (const auto &[pair, amount] : arcs) {
+            capacity[graph.arc(arc++)] = amount;
+        }
+    }
+
+    // The value of a least cut. Its side is told by `preflow.minCut` afterwards.
+    uint64_t least_cut(uint32_t s, uint32_t t) {
+        preflow.source(graph.node(s)).target(graph.node(t)).runMinCut();
+        return preflow.flowValue();
+    }
+
+  private:
+    using Capacities = lemon::StaticDigraph::ArcMap<int64_t>;
+
+    lemon::StaticDigraph graph;
+    Capacities capacity;
+    lemon::Preflow<lemon::StaticDigraph, Capacities> preflow{graph, capacity, graph.node(0),
+                                                             graph.node(0)};
+};
+
+int main(int count, char **words) { return cut_in_rounds<LemonPreflow>(count, words); }
