@@ -1,10 +1,11 @@
 // The yardstick that others wrote: LEMON's `Preflow`, a push-relabel method, for the same least cuts.
 //
-// usage: lemon_preflow ROUNDS < TEXT
+// usage: lemon_preflow flow|cut ROUNDS < TEXT
 //
+// `flow` makes the least cut and a flow of its value, as `least_cut` does; `cut` stops at the cut.
 // In its favour, links that join the same two routers are merged and those from a router to itself
-// are left out, before any cut; its graph is the one without changes, whose arcs lie side by side;
-// and it makes the least cut alone, without the flow that shows it.
+// are left out, before any cut, and its graph is the one that takes no changes, whose arcs lie side by
+// side.
 #include "network_text.hpp"
 
 #include <algorithm>
@@ -13,6 +14,7 @@
 #include <lemon/preflow.h>
 #include <lemon/static_graph.h>
 
+template <bool makes_flow>
 class LemonPreflow {
   public:
     explicit LemonPreflow(const Network &network) : capacity(graph) {
@@ -36,7 +38,12 @@ class LemonPreflow {
 
     // The value of a least cut. Its side is told by `preflow.minCut` afterwards.
     uint64_t least_cut(uint32_t s, uint32_t t) {
-        preflow.source(graph.node(s)).target(graph.node(t)).runMinCut();
+        preflow.source(graph.node(s)).target(graph.node(t));
+        if (makes_flow) {
+            preflow.run();
+        } else {
+            preflow.runMinCut();
+        }
         return preflow.flowValue();
     }
 
@@ -49,4 +56,24 @@ class LemonPreflow {
                                                              graph.node(0)};
 };
 
-int main(int count, char **words) { return cut_in_rounds<LemonPreflow>(count, words); }
+template <bool makes_flow>
+void cut_by_preflow(const Network &network, unsigned long rounds) {
+    LemonPreflow<makes_flow> preflow(network);
+    cut_in_rounds(preflow, network.routers, rounds);
+}
+
+int main(int count, char **words) {
+    std::string work = count == 3 ? words[1] : "";
+    if (work != "flow" && work != "cut") {
+        std::cerr << "usage: lemon_preflow flow|cut ROUNDS < TEXT\n";
+        return 2;
+    }
+    std::ios::sync_with_stdio(false);
+    Network network = read_network(std::cin);
+    unsigned long rounds = std::stoul(words[2]);
+    if (work == "flow") {
+        cut_by_preflow<true>(network, rounds);
+    } else {
+        cut_by_preflow<false>(network, rounds);
+    }
+}

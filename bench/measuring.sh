@@ -15,16 +15,17 @@ compile() {
     "${CC:-cc}" -std=c11 -O2 -Wall -Wextra -o "$room/$1" "bench/$1.c"
 }
 
-# measured NAME WORD..: runs the command, and appends its seconds, kB and status to the file NAME.
+# measured NAME WORD..: runs the command, and appends its seconds, kB, status and seconds of processors
+# to the file NAME.
 measured() {
     name=$1
     shift
     "$room/measure" "$@" 3>>"$room/$name" >/dev/null
 }
 
-# median_of NAME: the median of the seconds in the file NAME.
+# median_of NAME [FIELD]: the median of the seconds, or of that field, in the file NAME.
 median_of() {
-    cut -d ' ' -f 1 "$room/$1" | sort -n | sed -n "$(((rounds + 1) / 2))p"
+    cut -d ' ' -f "${2:-1}" "$room/$1" | sort -n | sed -n "$(((rounds + 1) / 2))p"
 }
 
 # peak_of NAME: the most memory in the file NAME, in kB.

@@ -50,25 +50,16 @@ inline Network read_network(std::istream &input) {
     return network;
 }
 
-// Cuts every router but the first from the first, so many times as the first word says, and prints
-// the sum of the values of one round.
+// Cuts every router but the first from the first, so many times, and prints the sum of the values of
+// one round.
 template <typename Cutter>
-int cut_in_rounds(int count, char **words) {
-    if (count != 2) {
-        std::cerr << "usage: " << words[0] << " ROUNDS < TEXT\n";
-        return 2;
-    }
-    std::ios::sync_with_stdio(false);
-    unsigned long rounds = std::stoul(words[1]);
-    Network network = read_network(std::cin);
-    Cutter cutter(network);
+void cut_in_rounds(Cutter &cutter, uint32_t routers, unsigned long rounds) {
     uint64_t sum = 0;
     for (unsigned long round = 0; round < rounds; round++) {
         sum = 0;
-        for (uint32_t router = 1; router < network.routers; router++) {
+        for (uint32_t router = 1; router < routers; router++) {
             sum += cutter.least_cut(router, 0);
         }
     }
     std::cout << sum << '\n';
-    return 0;
 }
