@@ -23,6 +23,10 @@ static double now(void) {
     return (double)at.tv_sec + (double)at.tv_nsec / 1e9;
 }
 
+static double seconds(struct timeval span) {
+    return (double)span.tv_sec + (double)span.tv_usec / 1e6;
+}
+
 int main(int count, char **words) {
     if (count < 2) {
         return 2;

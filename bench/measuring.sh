@@ -23,10 +23,10 @@ measured() {
     "$room/measure" "$@" 3>>"$room/$name" >/dev/null
 }
 
-# median_of NAME FIELD: the median of a field in the file NAME, 1 for seconds and 4 for those of
-# processor time.
+# median_of NAME [FIELD]: the median of a field in the file NAME: 1 for seconds, as where none is
+# named, and 4 for those of processor time.
 median_of() {
-    cut -d ' ' -f "$2" "$room/$1" | sort -n | sed -n "$(((rounds + 1) / 2))p"
+    cut -d ' ' -f "${2:-1}" "$room/$1" | sort -n | sed -n "$(((rounds + 1) / 2))p"
 }
 
 # peak_of NAME: the most memory in the file NAME, in kB.

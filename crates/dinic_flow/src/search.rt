@@ -244,7 +244,7 @@ impl Ball {
 }
 
 /// Whether the ball about s grows next: at first, where that about t can't, and where its front has
-/// at most half as many routers.
+/// at most half as many routers as the other's.
 fn grows_near(near: Ball, far: Ball) -> bool
     requires near { near.front ≤ near.known }
     requires small { near.known ≤ 1024 }
@@ -278,9 +278,10 @@ fn number(label: &mut [u32], marks: &[u32], queue: &[u32], total: u32)
     }
 }
 
-/// Searches a walk of fewest open arcs from s to t, by balls about both. The smaller front grows,
-/// until an open arc joins the balls, or that of s can't grow (Pohl, 1971). It looks at each arc
-/// at most once.
+/// Searches a walk of fewest open arcs from s to t, by balls about both: the routers within so many
+/// open arcs of s, and those of which t is within so many. One of the two grows at a time, until an
+/// open arc joins the balls, or that of s can't grow (Pohl, 1971). It looks at each arc at most
+/// once.
 ///
 /// Where they join, `label` has the levels. Where they don't, `ahead` begins with the routers that
 /// s reaches. `marks` has the labels of the ball about t, and `behind` its routers: what the two
