@@ -1,2 +1,6 @@
 pub mod Histories
 pub mod Ranges
+pub mod Forest
+pub mod Stages
+pub mod NextTables
+pub mod Moved
