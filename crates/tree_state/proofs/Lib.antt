@@ -4,3 +4,5 @@ pub mod Forest
 pub mod Stages
 pub mod NextTables
 pub mod Moved
+pub mod Plain
+pub mod Swap
