@@ -6,3 +6,5 @@ pub mod NextTables
 pub mod Moved
 pub mod Plain
 pub mod Swap
+pub mod Uncross
+pub mod Branches

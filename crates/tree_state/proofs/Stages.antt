@@ -4,16 +4,18 @@ use Rattle.std.proofs.Common.{sym, ◌∙◌, ap, arith, refl}
 use Rattle.std.specs.Prelude.{◌==◌}
 use Rattle.std.proofs.lemmas.Bool.{cases_Bool, false≢true, eqb-true, eq-eqb, ne_eqb}
 use Rattle.std.proofs.lemmas.Bool.Decides.{eqb_tells}
-use Rattle.cut_model.specs.Cuts.{RouterSet}
+use Rattle.cut_model.specs.Net.{Net}
+use Rattle.cut_model.specs.Cuts.{RouterSet, IsLeastCut}
 use Rattle.tree_state.specs.Tables.{Table, swaps, up_after, width_after, below}
 use Rattle.tree_state.proofs.Forest.{IsForest, some_up-root, some_up_is, some_up-deeper}
 
 -- What the tables of m commits among n routers keep: every way up ends at the root, only the root and committed
--- routers have others right below them, and no way up is longer than the commits allow.
+-- routers have others right below them, these are among the routers, and no way up is longer than the commits allow.
 pub record HasShape (n m root : ℕ) (up depth : Table) (done : RouterSet) : Type 0 where
   pub forest : IsForest root up depth
   pub inner : (i : ℕ) → (up i ≡ root) ⊎ (done (up i) ≡ true)
   pub root_free : done root ≡ false
+  pub within : (i : ℕ) → done i ≡ true → i < n
   pub shallow : (i : ℕ) → depth i ≤ suc m
   pub shallow_done : (i : ℕ) → done i ≡ true → depth i ≤ m
   pub room : suc m ≤ n
@@ -61,6 +63,10 @@ next_width g c width k = width_after g.root g.up width c.s c.t k c.X
 -- The routers whose way up holds r.
 abbrev pub under : Stage → ℕ → RouterSet
 under g r = below g.routers g.up r
+
+-- What is under each committed router is a least cut of it from the router above it, and costs its width.
+abbrev pub HasCuts : Net → Stage → Table → Type 0
+HasCuts net g width = (r : ℕ) → g.done r ≡ true → IsLeastCut net r (g.up r) (under g r) (width r)
 
 -- a way up is at most as long as there are routers
 pub short : (g : Stage) (i : ℕ) → g.depth i ≤ g.routers
