@@ -8,3 +8,5 @@ pub mod Plain
 pub mod Swap
 pub mod Uncross
 pub mod Branches
+pub mod NewCuts
+pub mod KeptShape

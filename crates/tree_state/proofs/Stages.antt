@@ -114,6 +114,10 @@ none_below-s g c i e = elim (g.shape.inner i) [
   | inr committed ↦ false≢true (sym c.fresh ∙ (rw e at committed))
 ]
 
+-- t is committed, where it isn't the root
+pub t-done : (g : Stage) (c : Commit g) → c.t ≢ g.root → g.done c.t ≡ true
+t-done g c not_root = rw c.neighbour at (above-done g c.s (λ e. not_root (sym c.neighbour ∙ e)))
+
 -- t isn't s
 pub t≢s : (g : Stage) (c : Commit g) → c.t ≢ c.s
 t≢s g c e = false≢true (sym c.lacks ∙ ap c.X e ∙ c.holds)
@@ -127,6 +131,13 @@ pub under-t-s : (g : Stage) (c : Commit g) → c.t ≢ g.root → under g c.t c.
 under-t-s g c not_root =
     under_is g c.t c.s not_root
     ∙ rw (c.neighbour, under-self g c.t not_root) (grind (arith, cases_Bool (c.s == c.t)))
+
+-- what is under another router that hangs from t lacks s
+pub under-hanging-s : (g : Stage) (c : Commit g) (r : ℕ) → r ≢ g.root → r ≢ c.s → g.up r ≡ c.t
+    → under g r c.s ≡ false
+under-hanging-s g c r not_root not_s hangs =
+    rw (under_is g r c.s not_root, ne_eqb c.s r (λ e. not_s (sym e)), c.neighbour)
+    (under-deeper g r c.t (omega (arith, deeper g r not_root, ap g.depth hangs)))
 
 -- a commit that swaps has a t other than the root
 pub swap-not_root : (g : Stage) (c : Commit g) → IsSwap g c → c.t ≢ g.root
