@@ -10,3 +10,6 @@ pub mod Uncross
 pub mod Branches
 pub mod NewCuts
 pub mod KeptShape
+pub mod KeptCuts
+pub mod WaysUp
+pub mod HalfBuilt
