@@ -13,3 +13,4 @@ pub mod KeptShape
 pub mod KeptCuts
 pub mod WaysUp
 pub mod HalfBuilt
+pub mod Climbing

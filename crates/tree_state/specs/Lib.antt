@@ -1,4 +1,6 @@
 pub mod Tables
 pub mod History
 pub mod Trees
+pub mod Paths
+pub mod Laws
 pub mod Growing
