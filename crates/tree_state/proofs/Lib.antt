@@ -14,3 +14,7 @@ pub mod KeptCuts
 pub mod WaysUp
 pub mod HalfBuilt
 pub mod Climbing
+pub mod Trees
+pub mod Paths
+pub mod CutTrees
+pub mod Smallest

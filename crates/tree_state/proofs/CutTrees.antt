@@ -1,0 +1,132 @@
+-- Complete histories are cut trees, and the least edge of a path in a cut tree is a least cut of its two ends.
+use Rattle.std.proofs.Common.{◌≡◌, ◌≢◌, inl, inr, ℕ, ◌≤◌, Bool, true, false, List, [], ◌∷◌, ◌++◌}
+use Rattle.std.proofs.Common.{sym, ◌∙◌, arith, refl}
+use Rattle.std.specs.Prelude.{◌==◌}
+use Rattle.std.proofs.lemmas.Bool.{cases_Bool, false≢true, eqb-true}
+use Rattle.cut_model.specs.Net.{Net}
+use Rattle.cut_model.specs.Cuts.{RouterSet, differ, cut_value, IsLeastCut}
+use Rattle.cut_model.specs.Crossing.{outside}
+use Rattle.cut_model.specs.Terminals.{IsTerminal, root_of}
+use Rattle.cut_model.proofs.Crossing.{cut_value-outside, parting_costs}
+use Rattle.cut_model.proofs.Terminals.{terminal-lt}
+use Rattle.tree_state.specs.declared.entry.Entry.{Entry}
+use Rattle.tree_state.specs.Tables.{Table, below}
+use Rattle.tree_state.specs.History.{tables, entered, IsLegalAfter, IsLegal, IsComplete}
+use Rattle.tree_state.specs.Trees.{IsHalfBuiltTree, IsCutTree}
+use Rattle.tree_state.specs.Paths.{IsOnPath, IsLeastEdge, side_for}
+use Rattle.tree_state.proofs.Histories.{entered-push, by_entries}
+use Rattle.tree_state.proofs.HalfBuilt.{half_built}
+use Rattle.tree_state.proofs.Trees.{Tree, tree_of}
+use Rattle.tree_state.proofs.Paths.{IsCrossedAt, path_crossed}
+
+-- ---- complete histories
+
+-- an entered router is a terminal
+pub entered_terminal : (net : Net) (before history : List Entry) → IsLegalAfter net before history → (c : ℕ)
+    → entered history c ≡ true → IsTerminal net c
+unfolding IsLegalAfter entered
+entered_terminal net before [] legal c yes_entered = absurd (false≢true yes_entered)
+entered_terminal net before (entry ∷ history) legal c is_entered = elim (cases_Bool (c == entry.router)) [
+  | inl here ↦ rw (eqb-true c entry.router here) legal.0.terminal
+  | inr later ↦ entered_terminal net (before ++ entry ∷ []) history legal.1 c (rw later at is_entered)
+]
+
+-- the tables of a complete history are a cut tree
+pub complete_cut_tree : (net : Net) → IsTerminal net (root_of net) → (history : List Entry) → IsComplete net history
+    → IsCutTree net (root_of net) (tables (root_of net) history).up (tables (root_of net) history).width
+complete_cut_tree net root_is history complete = record {
+  root_is = root_is;
+  up_is = λ i low. elim (half.inner i) [
+    | inl top ↦ rw top root_is
+    | inr is_entered ↦ entered_terminal net [] history complete.legal ((tables (root_of net) history).up i) is_entered
+  ];
+  cuts = λ c terminal not_root. half.cuts c (complete.all c terminal not_root);
+}
+  where
+    half : IsHalfBuiltTree net (tables (root_of net) history).up (tables (root_of net) history).width (entered history)
+    half = half_built net (terminal-lt net (root_of net) root_is) history complete.legal
+
+-- ---- what a set costs that parts two terminals
+
+-- An edge of a cut tree, by its lower end, on the path of a and b, of a width that a set doesn't undercut.
+pub record IsBoundedAt (net : Net) (root : ℕ) (up width : Table) (Y : RouterSet) (a b c : ℕ) : Type 0 where
+  pub on_path : IsOnPath net up a b c
+  pub not_root : c ≢ root
+  pub bound : width c ≤ cut_value net Y
+
+-- a set that parts two terminals costs at least the width of an edge on their path: one that it crosses
+pub path_bounds : (net : Net) (root : ℕ) (up width : Table) → IsCutTree net root up width → (Y : RouterSet) (a b : ℕ)
+    → IsTerminal net a → IsTerminal net b → Y a ≡ true → Y b ≡ false
+    → (c : ℕ) × IsBoundedAt net root up width Y a b c
+path_bounds net root up width cut_tree Y a b a_is b_is holds lacks =
+    let t : Tree net = tree_of net root up width cut_tree in
+    let parted : differ (Y a) (Y b) ≡ true = rw (holds, lacks) refl in
+    let found : (c : ℕ) × IsCrossedAt net t Y a b c = path_crossed net t Y a b a_is b_is parted in
+    (
+      found.0,
+      record {
+        on_path = found.1.on_path;
+        not_root = found.1.not_root;
+        bound = parting_costs net found.0 (up found.0) (width found.0) (below net.routers up found.0) Y
+            (cut_tree.cuts found.0 found.1.on_path.terminal found.1.not_root) found.1.crossed;
+      },
+    )
+
+-- ---- the least edge
+
+-- of two values that differ, one is true and the other false
+differ-true : (p q : Bool) → differ p q ≡ true → p ≡ true → q ≡ false
+differ-true p q differing yes_p = grind (arith, cases_Bool q)
+
+-- or the other way round
+differ-false : (p q : Bool) → differ p q ≡ true → p ≡ false → q ≡ true
+differ-false p q differing not_p = grind (arith, cases_Bool q)
+
+-- the root is on no path, since both ends are below it
+on_path-not_root : (net : Net) (root : ℕ) (up width : Table) → IsCutTree net root up width → (a b c : ℕ)
+    → IsTerminal net a → IsTerminal net b → IsOnPath net up a b c → c ≢ root
+on_path-not_root net root up width cut_tree a b c a_is b_is on_path e =
+    let t : Tree net = tree_of net root up width cut_tree in
+    false≢true (sym (rw (e, t.meets a a_is, t.meets b b_is) refl) ∙ on_path.parting)
+
+-- what is below the least edge costs its width
+least_edge-value : (net : Net) (root : ℕ) (up width : Table) → IsCutTree net root up width → (a b c : ℕ)
+    → IsTerminal net a → IsTerminal net b → IsLeastEdge net up width a b c
+    → cut_value net (below net.routers up c) ≡ width c
+least_edge-value net root up width cut_tree a b c a_is b_is edge =
+    (cut_tree.cuts c edge.on_path.terminal
+    (on_path-not_root net root up width cut_tree a b c a_is b_is edge.on_path)).value
+
+-- and no set that holds a and lacks b costs less
+least_edge-least : (net : Net) (root : ℕ) (up width : Table) → IsCutTree net root up width → (a b c : ℕ)
+    → IsTerminal net a → IsTerminal net b → IsLeastEdge net up width a b c
+    → (Y : RouterSet) → Y a ≡ true → Y b ≡ false → width c ≤ cut_value net Y
+least_edge-least net root up width cut_tree a b c a_is b_is edge Y holds lacks =
+    let found : (e : ℕ) × IsBoundedAt net root up width Y a b e
+        = path_bounds net root up width cut_tree Y a b a_is b_is holds lacks in
+    omega (arith, found.1.bound, edge.least found.0 found.1.on_path)
+
+-- so its side that holds a is a least cut of a from b
+pub least_edge_cut : (net : Net) (root : ℕ) (up width : Table) → IsCutTree net root up width → (a b c : ℕ)
+    → IsTerminal net a → IsTerminal net b → IsLeastEdge net up width a b c
+    → IsLeastCut net a b (side_for net.routers up a c) (width c)
+least_edge_cut net root up width cut_tree a b c a_is b_is edge = elim (cases_Bool (below net.routers up c a)) [
+  | inl a_below ↦ rw a_below record {
+    holds = a_below;
+    lacks = differ-true (below net.routers up c a) (below net.routers up c b) edge.on_path.parting a_below;
+    value = value;
+    least = least;
+  }
+  | inr a_above ↦ rw a_above record {
+    holds = rw a_above refl;
+    lacks = rw (differ-false (below net.routers up c a) (below net.routers up c b) edge.on_path.parting a_above) refl;
+    value = cut_value-outside net (below net.routers up c) ∙ value;
+    least = least;
+  }
+]
+  where
+    value : cut_value net (below net.routers up c) ≡ width c
+    value = least_edge-value net root up width cut_tree a b c a_is b_is edge
+
+    least : (Y : RouterSet) → Y a ≡ true → Y b ≡ false → width c ≤ cut_value net Y
+    least = least_edge-least net root up width cut_tree a b c a_is b_is edge
