@@ -1,5 +1,8 @@
 pub mod Histories
 pub mod Ranges
+pub mod Words
+pub mod Written
+pub mod Grown
 pub mod Forest
 pub mod Stages
 pub mod NextTables
