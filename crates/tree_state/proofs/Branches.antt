@@ -1,5 +1,5 @@
 -- The part of the tree under t is t, what hangs from it, and its branches. There, the uncrossed side is what moves.
-use Rattle.std.proofs.Common.{◌≡◌, ◌≢◌, ◌⊎◌, inl, inr, ℕ, zero, suc, ◌<◌, ◌≤◌, true, false, ◌&&◌, ◌||◌}
+use Rattle.std.proofs.Common.{◌≡◌, ◌≢◌, ◌⊎◌, inl, inr, ℕ, zero, suc, ◌<◌, ◌≤◌, true, false, ◌||◌}
 use Rattle.std.proofs.Common.{sym, ◌∙◌, ap, arith, refl, subst}
 use Rattle.std.specs.Prelude.{◌==◌}
 use Rattle.std.proofs.lemmas.Bool.{cases_Bool, cases_eq, false≢true, eq-eqb, ne_eqb}
@@ -163,15 +163,23 @@ moved-uncrossed g c =
     told i not_root (inl e) _ =
         rw (e, uncrossed-t g c, movers-none g c c.t (inr c.lacks), uncrossed-parent g c (λ h. not_root (e ∙ h))) refl
     told i not_root (inr not_t) (inl hangs) =
-        rw (movers-below-t g c i hangs, uncross-hanging g c i hangs g.routers, region-hanging g c i not_t hangs, hangs,
-        uncrossed-t g c)
+        rw (
+          movers-below-t g c i hangs,
+          uncross-hanging g c i hangs g.routers,
+          region-hanging g c i not_t hangs,
+          hangs,
+          uncrossed-t g c,
+        )
         (grind (arith, cases_Bool (c.X i)))
     told i not_root (inr not_t) (inr not_hanging) = elim (cases_Bool (region g c i)) [
       | inr out ↦
           rw (movers-none g c i (inl not_hanging), out, ← region_is g c i not_t, out)
           (grind (arith, cases_Bool (uncross g c g.routers i), cases_Bool (uncross g c g.routers (g.up i))))
       | inl inside ↦
-          rw (movers-none g c i (inl not_hanging), uncrossed-branch g c i not_root not_t not_hanging inside,
-          region_is g c i not_t)
+          rw (
+            movers-none g c i (inl not_hanging),
+            uncrossed-branch g c i not_root not_t not_hanging inside,
+            region_is g c i not_t,
+          )
           refl
     ]

@@ -71,8 +71,8 @@ number_in-first_up net root up hung zero i le terminal unmet =
     number_in-none (first_up up zero i) (first_up-zero up i) net.routers
 number_in-first_up net root up hung (suc k) i le terminal unmet =
     let both : ((i == root) ≡ false) × (some_up (λ j. j == root) up k (up i) ≡ false)
-        = or_parts (i == root) (some_up (λ j. j == root) up k (up i))
-        (sym (some_up-suc (λ j. j == root) up k i) ∙ unmet) in
+    = or_parts (i == root) (some_up (λ j. j == root) up k (up i))
+    (sym (some_up-suc (λ j. j == root) up k i) ∙ unmet) in
     rw (first_up-suc up k i)
     (number_in-new (first_up up k (up i)) i net.routers
     (first_up-fresh net root up hung k i (omega arith) terminal (eqb-false i root both.0)) (terminal-lt net i terminal)
@@ -87,9 +87,9 @@ meets_root net root up hung i terminal = elim (cases_Bool (below net.routers up 
   | inl met ↦ met
   | inr unmet ↦ absurd (
       let all : number_in (first_up up net.routers i) net.routers ≡ net.routers
-          = number_in-first_up net root up hung net.routers i (omega arith) terminal unmet in
+      = number_in-first_up net root up hung net.routers i (omega arith) terminal unmet in
       let fewer : number_in (first_up up net.routers i) net.routers < net.routers
-          = number_in-lt (first_up up net.routers i) root net.routers unmet (terminal-lt net root hung.root_is) in
+      = number_in-lt (first_up up net.routers i) root net.routers unmet (terminal-lt net root hung.root_is) in
       omega arith)
 ]
 
@@ -119,9 +119,9 @@ last_before net root up hung (suc k) i terminal not_root met = elim (cases_eq (u
   }
   | inr elsewhere ↦ (
       let later : some_up (λ j. j == root) up (suc k) (up i) ≡ true
-          = rw (ne_eqb i root not_root) at (sym (some_up-suc (λ j. j == root) up (suc k) i) ∙ met) in
+      = rw (ne_eqb i root not_root) at (sym (some_up-suc (λ j. j == root) up (suc k) i) ∙ met) in
       let above : IsLastBefore net root up k (up i)
-          = last_before net root up hung k (up i) (hung.up_is i terminal) elsewhere later in
+      = last_before net root up hung k (up i) (hung.up_is i terminal) elsewhere later in
       record {
         last = above.last;
         terminal = above.terminal;
@@ -137,10 +137,13 @@ root_below : (net : Net) (root : ℕ) (up : Table) (k : ℕ) → k < net.routers
     → (c : ℕ) × (IsTerminal net c × (c ≢ root) × (below net.routers up c (up c) ≡ true))
 root_below net root up k low before = (
   before.last,
-  (before.terminal, before.not_root,
-      rw before.hangs (some_up-more (λ j. j == before.last) up (suc k) net.routers root (omega arith)
-      (some_up-suc (λ j. j == before.last) up k root
-      ∙ rw before.met (grind (arith, cases_Bool (root == before.last)))))),
+  (
+    before.terminal,
+    before.not_root,
+    rw before.hangs (some_up-more (λ j. j == before.last) up (suc k) net.routers root (omega arith)
+        (some_up-suc (λ j. j == before.last) up k root
+        ∙ rw before.met (grind (arith, cases_Bool (root == before.last))))),
+  ),
 )
 
 -- so the root hangs from itself
@@ -154,7 +157,7 @@ root_hangs net root up hung = elim (cases_eq (up root) root) [
     loop elsewhere zero e some = omega arith
     loop elsewhere (suc k) e some =
         let met : some_up (λ j. j == root) up (suc k) (up root) ≡ true
-            = rw e (meets_root net root up hung (up root) (hung.up_is root hung.root_is)) in
+        = rw e (meets_root net root up hung (up root) (hung.up_is root hung.root_is)) in
         let found = root_below net root up k (omega arith)
-            (last_before net root up hung k (up root) (hung.up_is root hung.root_is) elsewhere met) in
+        (last_before net root up hung k (up root) (hung.up_is root hung.root_is) elsewhere met) in
         false≢true (sym (hung.lacks found.0 found.1.0 found.1.1) ∙ found.1.2)

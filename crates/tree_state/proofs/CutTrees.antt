@@ -5,16 +5,14 @@ use Rattle.std.specs.Prelude.{◌==◌}
 use Rattle.std.proofs.lemmas.Bool.{cases_Bool, false≢true, eqb-true}
 use Rattle.cut_model.specs.Net.{Net}
 use Rattle.cut_model.specs.Cuts.{RouterSet, differ, cut_value, IsLeastCut}
-use Rattle.cut_model.specs.Crossing.{outside}
 use Rattle.cut_model.specs.Terminals.{IsTerminal, root_of}
 use Rattle.cut_model.proofs.Crossing.{cut_value-outside, parting_costs}
 use Rattle.cut_model.proofs.Terminals.{terminal-lt}
 use Rattle.tree_state.specs.declared.entry.Entry.{Entry}
 use Rattle.tree_state.specs.Tables.{Table, below}
-use Rattle.tree_state.specs.History.{tables, entered, IsLegalAfter, IsLegal, IsComplete}
+use Rattle.tree_state.specs.History.{tables, entered, IsLegalAfter, IsComplete}
 use Rattle.tree_state.specs.Trees.{IsHalfBuiltTree, IsCutTree}
 use Rattle.tree_state.specs.Paths.{IsOnPath, IsLeastEdge, side_for}
-use Rattle.tree_state.proofs.Histories.{entered-push, by_entries}
 use Rattle.tree_state.proofs.HalfBuilt.{half_built}
 use Rattle.tree_state.proofs.Trees.{Tree, tree_of}
 use Rattle.tree_state.proofs.Paths.{IsCrossedAt, path_crossed}
@@ -61,8 +59,7 @@ pub path_bounds : (net : Net) (root : ℕ) (up width : Table) → IsCutTree net 
 path_bounds net root up width cut_tree Y a b a_is b_is holds lacks =
     let t : Tree net = tree_of net root up width cut_tree in
     let parted : differ (Y a) (Y b) ≡ true = rw (holds, lacks) refl in
-    let found : (c : ℕ) × IsCrossedAt net t Y a b c = path_crossed net t Y a b a_is b_is parted in
-    (
+    let found : (c : ℕ) × IsCrossedAt net t Y a b c = path_crossed net t Y a b a_is b_is parted in (
       found.0,
       record {
         on_path = found.1.on_path;
@@ -103,7 +100,7 @@ least_edge-least : (net : Net) (root : ℕ) (up width : Table) → IsCutTree net
     → (Y : RouterSet) → Y a ≡ true → Y b ≡ false → width c ≤ cut_value net Y
 least_edge-least net root up width cut_tree a b c a_is b_is edge Y holds lacks =
     let found : (e : ℕ) × IsBoundedAt net root up width Y a b e
-        = path_bounds net root up width cut_tree Y a b a_is b_is holds lacks in
+    = path_bounds net root up width cut_tree Y a b a_is b_is holds lacks in
     omega (arith, found.1.bound, edge.least found.0 found.1.on_path)
 
 -- so its side that holds a is a least cut of a from b

@@ -2,11 +2,11 @@
 use Rattle.std.proofs.Common.{◌≡◌, ◌≢◌, inl, inr, ℕ, suc, ◌<◌, ◌≤◌, true, false, cond, List, [], ◌∷◌, ◌++◌, length}
 use Rattle.std.proofs.Common.{sym, ◌∙◌, ap, arith, refl, add-one}
 use Rattle.std.specs.Prelude.{◌==◌}
-use Rattle.std.proofs.lemmas.Bool.{cases_Bool, cases_eq, false≢true, eq-eqb, eqb-true, ne_eqb}
+use Rattle.std.proofs.lemmas.Bool.{cases_Bool, false≢true, eq-eqb, ne_eqb}
 use Rattle.std.proofs.lemmas.List.{length_push}
 use Rattle.cut_model.specs.Net.{Net}
-use Rattle.cut_model.specs.Cuts.{RouterSet, set_of, IsLeastCut}
-use Rattle.cut_model.specs.Terminals.{IsTerminal, root_of}
+use Rattle.cut_model.specs.Cuts.{RouterSet, set_of}
+use Rattle.cut_model.specs.Terminals.{root_of}
 use Rattle.cut_model.proofs.Counting.{with_number, with_number-other, number_in-lt, number_in-new}
 use Rattle.cut_model.proofs.Crossing.{same_sets}
 use Rattle.cut_model.proofs.Terminals.{terminal-lt}
@@ -15,7 +15,7 @@ use Rattle.tree_state.specs.Tables.{Table, Tables, swaps}
 use Rattle.tree_state.specs.History.{commit, tables, entered, MayFollow, IsLegalAfter, IsLegal}
 use Rattle.tree_state.specs.Trees.{CutsBelow, IsHalfBuiltTree}
 use Rattle.tree_state.proofs.Histories.{tables-push, entered-push, legal_push, by_entries}
-use Rattle.tree_state.proofs.Ranges.{IsBounded, bounded, length-lt-more}
+use Rattle.tree_state.proofs.Ranges.{bounded, length-lt-more}
 use Rattle.tree_state.proofs.Stages.{HasShape, Stage, Commit}
 use Rattle.tree_state.proofs.Plain.{plain_depth}
 use Rattle.tree_state.proofs.Swap.{swap_depth}
@@ -174,9 +174,13 @@ depth-lt : (net : Net) → root_of net < net.routers → (history : List Entry) 
     → built_tree.depth i < net.routers
 depth-lt net room history legal built_tree i low not_root = elim (cases_Bool (entered history i)) [
   | inl committed ↦ omega (arith, built_tree.shape.shallow_done i committed, built_tree.shape.room)
-  | inr fresh ↦ omega (arith, built_tree.shape.shallow i, (bounded net room history legal).count,
-      number_in-new (entered history) i net.routers fresh low,
-      number_in-lt (with_number i (entered history)) (root_of net) net.routers root_out room)
+  | inr fresh ↦ omega (
+    arith,
+    built_tree.shape.shallow i,
+    (bounded net room history legal).count,
+    number_in-new (entered history) i net.routers fresh low,
+    number_in-lt (with_number i (entered history)) (root_of net) net.routers root_out room,
+  )
 ]
   where
     root_out : with_number i (entered history) (root_of net) ≡ false

@@ -4,7 +4,7 @@ use Rattle.cut_model.specs.Net.{Net}
 use Rattle.cut_model.specs.Cuts.{IsLeastCut}
 use Rattle.tree_state.specs.Tables.{Table, below}
 use Rattle.tree_state.proofs.Stages.{Stage, Commit, HasCuts, IsPlain, IsSwap, next_up, next_width, done-not_root}
-use Rattle.tree_state.proofs.Stages.{t-done, t≢s, under, under-t-s, under-hanging-s, swap-not_root, swap-holds}
+use Rattle.tree_state.proofs.Stages.{t-done, under, under-t-s, under-hanging-s, swap-not_root, swap-holds}
 use Rattle.tree_state.proofs.NextTables.{movers, mover-in, mover-up, up-mover, up-s, up-other, up-s_swap, up-t_swap}
 use Rattle.tree_state.proofs.NextTables.{up-other_swap, width-s, width-other, width-s_swap, width-t_swap}
 use Rattle.tree_state.proofs.NextTables.{width-other_swap}
@@ -67,13 +67,19 @@ plain_cuts net g c width cuts plain k cut s_in room =
         (cut-moved net g c width cuts plain k cut)
     new_cut r committed (Plain.moves not_s mover) =
         let before : g.done r ≡ true = next_done-other g c r committed not_s in
-        rw (up-mover g c r not_s mover, plain_under-other g c plain fits r (done-not_root g r before) not_s,
-        width-other g c width k r plain not_s)
+        rw (
+          up-mover g c r not_s mover,
+          plain_under-other g c plain fits r (done-not_root g r before) not_s,
+          width-other g c width k r plain not_s,
+        )
         (cut-mover net g c width cuts k cut r before not_s mover)
     new_cut r committed (Plain.stays not_s other) =
         let before : g.done r ≡ true = next_done-other g c r committed not_s in
-        rw (up-other g c r plain not_s other, plain_under-other g c plain fits r (done-not_root g r before) not_s,
-        width-other g c width k r plain not_s)
+        rw (
+          up-other g c r plain not_s other,
+          plain_under-other g c plain fits r (done-not_root g r before) not_s,
+          width-other g c width k r plain not_s,
+        )
         (cuts r before)
 
 -- with a swap, s takes over the cut of t, t gets a new one, and all others keep theirs
@@ -101,12 +107,17 @@ swap_cuts net g c width cuts swap k cut s_in room =
         (cut-kept net g c width cuts swap k cut)
     new_cut r committed (Swap.moves not_s not_t mover) =
         let before : g.done r ≡ true = next_done-other g c r committed not_s in
-        rw (up-mover g c r not_s mover, swap_under-other g c swap fits r (done-not_root g r before) not_s not_t,
-        width-other_swap g c width k r not_s not_t)
+        rw (
+          up-mover g c r not_s mover,
+          swap_under-other g c swap fits r (done-not_root g r before) not_s not_t,
+          width-other_swap g c width k r not_s not_t,
+        )
         (cut-mover net g c width cuts k cut r before not_s mover)
     new_cut r committed (Swap.stays not_s not_t other) =
         let before : g.done r ≡ true = next_done-other g c r committed not_s in
-        rw (up-other_swap g c r not_s not_t other,
-        swap_under-other g c swap fits r (done-not_root g r before) not_s not_t,
-        width-other_swap g c width k r not_s not_t)
+        rw (
+          up-other_swap g c r not_s not_t other,
+          swap_under-other g c swap fits r (done-not_root g r before) not_s not_t,
+          width-other_swap g c width k r not_s not_t,
+        )
         (cuts r before)

@@ -1,6 +1,6 @@
 -- The least cuts after a commit: the new ones of s and of t, and the old ones that change their other end.
 use Rattle.std.proofs.Common.{◌≡◌, ◌≢◌, ◌⊎◌, inl, inr, ℕ, ◌≤◌, Bool, true, false, not, ◌&&◌, ◌||◌}
-use Rattle.std.proofs.Common.{sym, ◌∙◌, arith, refl}
+use Rattle.std.proofs.Common.{◌∙◌, arith, refl}
 use Rattle.std.proofs.lemmas.Bool.{cases_Bool, cases_eq}
 use Rattle.cut_model.specs.Net.{Net}
 use Rattle.cut_model.specs.Cuts.{RouterSet, cut_value, IsLeastCut}
@@ -43,8 +43,8 @@ moved-root_cheap : (net : Net) (g : Stage) (c : Commit g) (k : ℕ) → cut_valu
     → c.t ≡ g.root → cut_value net (moved g c) ≤ k
 moved-root_cheap net g c k cheap e =
     let whole : uncrossed g c ≡ uncross g c g.routers
-        = same_sets (uncrossed g c) (uncross g c g.routers)
-        (λ i. rw (region-root g c i e) (grind (arith, cases_Bool (uncross g c g.routers i)))) in
+    = same_sets (uncrossed g c) (uncross g c g.routers)
+    (λ i. rw (region-root g c i e) (grind (arith, cases_Bool (uncross g c g.routers i)))) in
     rw (moved-uncrossed g c, whole) cheap
 
 -- elsewhere it is the uncrossed side without the far side of q, which lacks q
@@ -52,12 +52,15 @@ moved-other_cheap : (net : Net) (g : Stage) (c : Commit g) (width : Table) → H
     → (k : ℕ) → cut_value net (uncross g c g.routers) ≤ k → c.t ≢ g.root → cut_value net (moved g c) ≤ k
 moved-other_cheap net g c width cuts plain k cheap not_root =
     let without : uncrossed g c ≡ uncross g c g.routers ∖ outside (under g c.t)
-        = same_sets (uncrossed g c) (uncross g c g.routers ∖ outside (under g c.t))
-        (λ i. rw (region-other g c i not_root) (within_not_outside (uncross g c g.routers i) (under g c.t i))) in
+    = same_sets (uncrossed g c) (uncross g c g.routers ∖ outside (under g c.t))
+    (λ i. rw (region-other g c i not_root) (within_not_outside (uncross g c g.routers i) (under g c.t i))) in
     rw (moved-uncrossed g c, without)
-    (omega (arith, cheap,
-    shrink net (g.up c.t) c.t (width c.t) (outside (under g c.t)) (uncross g c g.routers)
-    (parent_cut net g c width cuts not_root) (parent_stays g c not_root ∙ plain-lacks g c plain not_root)))
+    (omega (
+      arith,
+      cheap,
+      shrink net (g.up c.t) c.t (width c.t) (outside (under g c.t)) (uncross g c g.routers)
+          (parent_cut net g c width cuts not_root) (parent_stays g c not_root ∙ plain-lacks g c plain not_root),
+    ))
 
 -- so it is a least cut
 pub cut-moved : (net : Net) (g : Stage) (c : Commit g) (width : Table) → HasCuts net g width → IsPlain g c → (k : ℕ)
@@ -102,9 +105,12 @@ cut-kept net g c width cuts swap k cut =
 
     cheap : cut_value net (joined g c) ≤ k
     cheap =
-        omega (arith, uncross-cheap net g c width cuts k cut,
-        grow net (g.up c.t) c.t (width c.t) (outside (under g c.t)) (uncross g c g.routers)
-        (parent_cut net g c width cuts not_root) (parent_stays g c not_root ∙ swap-holds g c swap))
+        omega (
+          arith,
+          uncross-cheap net g c width cuts k cut,
+          grow net (g.up c.t) c.t (width c.t) (outside (under g c.t)) (uncross g c g.routers)
+              (parent_cut net g c width cuts not_root) (parent_stays g c not_root ∙ swap-holds g c swap),
+        )
 
 -- ---- old cuts whose other end changes
 
@@ -124,9 +130,9 @@ cut-hangs_from_s net s t r k width X S cut old r_in s_out = record {
     low Y holds lacks (inr t_out) = old.least Y holds t_out
     low Y holds lacks (inl t_in) =
         let first : k ≤ cut_value net (X ∖ Y)
-            = cut.least (X ∖ Y) (rw (cut.holds, lacks) refl) (rw cut.lacks refl) in
+        = cut.least (X ∖ Y) (rw (cut.holds, lacks) refl) (rw cut.lacks refl) in
         let turned : width ≤ cut_value net (outside (Y ∖ X))
-            = old.least (outside (Y ∖ X)) (rw (holds, r_in) refl) (rw (t_in, cut.lacks) refl) in
+        = old.least (outside (Y ∖ X)) (rw (holds, r_in) refl) (rw (t_in, cut.lacks) refl) in
         omega (arith, first, turned, cut_value-outside net (Y ∖ X), cut.value, differences net X Y)
 
 -- A least cut S of t from q that holds s is one of s from q, where q is in a least cut X of s from t: a set Y that
@@ -145,7 +151,7 @@ cut-takes_over net s t q k width X S cut old q_in s_in = record {
     low Y holds lacks (inl t_in) = old.least Y t_in lacks
     low Y holds lacks (inr t_out) =
         let first : k ≤ cut_value net (X ∩ Y)
-            = cut.least (X ∩ Y) (rw (cut.holds, holds) refl) (rw cut.lacks refl) in
+        = cut.least (X ∩ Y) (rw (cut.holds, holds) refl) (rw cut.lacks refl) in
         let turned : width ≤ cut_value net (outside (X ∪ Y))
-            = old.least (outside (X ∪ Y)) (rw (cut.lacks, t_out) refl) (rw q_in refl) in
+        = old.least (outside (X ∪ Y)) (rw (cut.lacks, t_out) refl) (rw q_in refl) in
         omega (arith, first, turned, cut_value-outside net (X ∪ Y), cut.value, meet_join net X Y)

@@ -39,8 +39,14 @@ pub up-mover : (g : Stage) (c : Commit g) (i : ℕ) → i ≢ c.s → movers g c
 unfolding movers up_after
 up-mover g c i not_s mover =
     let lacks : c.X c.t ≡ false = c.lacks in
-    grind (arith, eqb_tells i c.s, eqb_tells i c.t, cases_Bool (c.X i), cases_Bool (swaps g.root g.up c.t c.X),
-    eqb_tells (g.up i) c.t)
+    grind (
+      arith,
+      eqb_tells i c.s,
+      eqb_tells i c.t,
+      cases_Bool (c.X i),
+      cases_Bool (swaps g.root g.up c.t c.X),
+      eqb_tells (g.up i) c.t,
+    )
 
 -- without a swap, s hangs from t
 pub up-s : (g : Stage) (c : Commit g) → IsPlain g c → next_up g c c.s ≡ c.t

@@ -1,7 +1,6 @@
 -- A set that parts two terminals of a tree parts, on their path, a terminal from the one that it hangs from.
-use Rattle.std.proofs.Common.{◌≡◌, ◌≢◌, inl, inr, ℕ, zero, suc, ◌+◌, ◌≤◌, Bool, true, false, ◌||◌}
+use Rattle.std.proofs.Common.{◌≡◌, ◌≢◌, inl, inr, ℕ, zero, suc, ◌+◌, ◌≤◌, Bool, true, false}
 use Rattle.std.proofs.Common.{sym, ◌∙◌, ap, arith, refl}
-use Rattle.std.specs.Prelude.{◌==◌}
 use Rattle.std.proofs.lemmas.Bool.{cases_Bool, cases_eq, cases_lt, false≢true, ne_eqb}
 use Rattle.cut_model.specs.Net.{Net}
 use Rattle.cut_model.specs.Cuts.{RouterSet, differ}
@@ -93,8 +92,7 @@ one_up net t Y a b a_is b_is low apart not_root further parted = elim (cases_Boo
   )
   | inr alike ↦ (
       let above : (c : ℕ) × IsCrossedAt net t Y (t.up a) b c
-          = further (grind (arith, cases_Bool (Y a), cases_Bool (Y b), cases_Bool (Y (t.up a)))) in
-      (
+      = further (grind (arith, cases_Bool (Y a), cases_Bool (Y b), cases_Bool (Y (t.up a)))) in (
         above.0,
         record {
           on_path = on_path-up net t a b above.0 a_is b_is low apart not_root above.1.not_root above.1.on_path;
@@ -124,9 +122,9 @@ crossed_within net t Y (suc k) a b sum a_is b_is parted = elim (cases_lt (t.dept
       let apart : a ≢ b = differ-apart Y b a turned in
       let not_root : b ≢ t.root = deeper-not_root net t b a a_is (omega arith) apart in
       let found : (c : ℕ) × IsCrossedAt net t Y b a c
-          = one_up net t Y b a b_is a_is (omega arith) apart not_root
-          (λ p. crossed_within net t Y k (t.up b) a (omega (arith, t.step b b_is not_root)) (t.up_is b b_is) a_is p)
-          turned in
+      = one_up net t Y b a b_is a_is (omega arith) apart not_root
+      (λ p. crossed_within net t Y k (t.up b) a (omega (arith, t.step b b_is not_root)) (t.up_is b b_is) a_is p)
+      turned in
       (found.0, crossed_turned net t Y b a found.0 found.1))
 ]
 

@@ -76,8 +76,10 @@ plain_forest g c plain = record {
         rw (up-other g c i plain not_s other)
         (elim (cases_Bool (moved g c i)) [
           | inl is_moved ↦
-              rw (plain_depth-moved g c i not_s is_moved,
-              plain_depth-moved g c (g.up i) (none_below-s g c i) (sym both ∙ is_moved))
+              rw (
+                plain_depth-moved g c i not_s is_moved,
+                plain_depth-moved g c (g.up i) (none_below-s g c i) (sym both ∙ is_moved),
+              )
               (omega (arith, g.shape.forest.step i not_root))
           | inr not_moved ↦
               rw (plain_depth-other g c i not_moved, plain_depth-other g c (g.up i) (sym both ∙ not_moved))

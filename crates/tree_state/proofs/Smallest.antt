@@ -1,5 +1,5 @@
 -- The smallest of a set of numbers by a table, and the edges of cut trees that are smallest.
-use Rattle.std.proofs.Common.{◌≡◌, ◌≢◌, ◌⊎◌, inl, inr, ℕ, zero, suc, ◌+◌, ◌<◌, ◌≤◌, true, false, cond, not, ◌&&◌}
+use Rattle.std.proofs.Common.{◌≡◌, ◌≢◌, ◌⊎◌, inl, inr, ℕ, zero, suc, ◌<◌, ◌≤◌, true, false, not, ◌&&◌}
 use Rattle.std.proofs.Common.{sym, ◌∙◌, ap, arith, refl}
 use Rattle.std.specs.Prelude.{◌==◌}
 use Rattle.std.proofs.lemmas.Bool.{cases_Bool, cases_eq, cases_lt, false≢true, and_parts, ne_eqb, eq-eqb}
@@ -103,7 +103,7 @@ on_path-from : (net : Net) (up : Table) (a b c : ℕ) → path net up a b c ≡ 
 unfolding path
 on_path-from net up a b c inside =
     let both : (is_terminal net c ≡ true) × (parts net.routers up a b c ≡ true)
-        = and_parts (is_terminal net c) (parts net.routers up a b c) inside in
+    = and_parts (is_terminal net c) (parts net.routers up a b c) inside in
     record { terminal = both.0; parting = both.1 }
 
 -- and no others are
@@ -126,8 +126,8 @@ path_least_edge net root up width cut_tree a b a_is b_is apart = elim (smallest 
   )
   | inr none ↦ absurd (
       let some : (c : ℕ) × IsBoundedAt net root up width (λ i. i == a) a b c
-          = path_bounds net root up width cut_tree (λ i. i == a) a b a_is b_is (eq-eqb a a refl)
-          (ne_eqb b a (λ e. apart (sym e))) in
+      = path_bounds net root up width cut_tree (λ i. i == a) a b a_is b_is (eq-eqb a a refl)
+      (ne_eqb b a (λ e. apart (sym e))) in
       false≢true (sym (none some.0 (terminal-lt net some.0 some.1.on_path.terminal))
       ∙ path-from net up a b some.0 some.1.on_path))
 ]
@@ -194,8 +194,11 @@ weakest_edge net root up width cut_tree two = elim (smallest (others net root) w
           found.1.first e (terminal-lt net e terminal) (others-from net root e terminal not_root) same;
     },
   )
-  | inr none ↦ absurd (omega (arith, two,
-      number_in-one (is_terminal net) root net.routers (λ i low terminal. only none i low terminal)))
+  | inr none ↦ absurd (omega (
+    arith,
+    two,
+    number_in-one (is_terminal net) root net.routers (λ i low terminal. only none i low terminal),
+  ))
 ]
   where
     only : ((e : ℕ) → e < net.routers → others net root e ≡ false) → (i : ℕ) → i < net.routers → IsTerminal net i
@@ -228,6 +231,6 @@ weakest_edge_cut net root up width cut_tree c weakest = record {
     least : (Y : RouterSet) → PartsTerminals net Y → width c ≤ cut_value net Y
     least Y parting =
         let found : (e : ℕ) × IsBoundedAt net root up width Y parting.inner parting.outer e
-            = path_bounds net root up width cut_tree Y parting.inner parting.outer parting.inner_is parting.outer_is
-            parting.holds parting.lacks in
+        = path_bounds net root up width cut_tree Y parting.inner parting.outer parting.inner_is parting.outer_is
+        parting.holds parting.lacks in
         omega (arith, found.1.bound, weakest.least found.0 found.1.on_path.terminal found.1.not_root)

@@ -1,7 +1,7 @@
 -- A commit with a swap: s hangs where t hung, t from s, and the movers from s. The new tables are a tree, s has under
 -- it what t had, t keeps what doesn't move, and all else is under what it was under.
-use Rattle.std.proofs.Common.{◌≡◌, ◌≢◌, inl, inr, ℕ, suc, ◌≤◌, true, false, cond, not, ◌&&◌, ◌||◌}
-use Rattle.std.proofs.Common.{sym, ◌∙◌, ap, arith, refl}
+use Rattle.std.proofs.Common.{◌≡◌, ◌≢◌, inl, inr, ℕ, suc, ◌≤◌, true, false, cond, ◌||◌}
+use Rattle.std.proofs.Common.{sym, ◌∙◌, arith, refl}
 use Rattle.std.specs.Prelude.{◌==◌}
 use Rattle.std.proofs.lemmas.Bool.{cases_Bool, cases_eq, eq-eqb, ne_eqb}
 use Rattle.cut_model.specs.Cuts.{RouterSet}
@@ -99,26 +99,38 @@ swap_forest g c swap = record {
   where
     step : (i : ℕ) → i ≢ g.root → Kind g c i → swap_depth g c i ≡ suc (swap_depth g c (next_up g c i))
     step i not_root (is_s e) =
-        rw (e, up-s_swap g c swap, swap_depth-s g c,
-        swap_depth-other g c (g.up c.t) (none_below-s g c c.t) (kept-parent g c swap))
+        rw (
+          e,
+          up-s_swap g c swap,
+          swap_depth-s g c,
+          swap_depth-other g c (g.up c.t) (none_below-s g c c.t) (kept-parent g c swap),
+        )
         (g.shape.forest.step c.t (swap-not_root g c swap))
     step i not_root (is_t not_s e) =
         rw (e, up-t_swap g c swap, swap_depth-s g c, swap_depth-kept g c c.t (t≢s g c) (kept-t g c swap)) refl
     step i not_root (moves not_s not_t mover) =
-        rw (up-mover g c i not_s mover, swap_depth-s g c, swap_depth-other g c i not_s (kept-mover g c i mover),
-        ← mover-up g c i mover)
+        rw (
+          up-mover g c i not_s mover,
+          swap_depth-s g c,
+          swap_depth-other g c i not_s (kept-mover g c i mover),
+          ← mover-up g c i mover,
+        )
         (g.shape.forest.step i not_root)
     step i not_root (stays not_s not_t other) =
         let both : kept g c i ≡ kept g c (g.up i) = kept_with_up g c swap i not_t other in
         rw (up-other_swap g c i not_s not_t other)
         (elim (cases_Bool (kept g c i)) [
           | inl keeps ↦
-              rw (swap_depth-kept g c i not_s keeps,
-              swap_depth-kept g c (g.up i) (none_below-s g c i) (sym both ∙ keeps))
+              rw (
+                swap_depth-kept g c i not_s keeps,
+                swap_depth-kept g c (g.up i) (none_below-s g c i) (sym both ∙ keeps),
+              )
               (omega (arith, g.shape.forest.step i not_root))
           | inr goes ↦
-              rw (swap_depth-other g c i not_s goes,
-              swap_depth-other g c (g.up i) (none_below-s g c i) (sym both ∙ goes))
+              rw (
+                swap_depth-other g c i not_s goes,
+                swap_depth-other g c (g.up i) (none_below-s g c i) (sym both ∙ goes),
+              )
               (g.shape.forest.step i not_root)
         ])
 
@@ -143,12 +155,22 @@ swap_under-s g c swap fits =
     told i (is_t not_s e) =
         rw (e, up-t_swap g c swap, ne_eqb c.t c.s (t≢s g c), s_in) (under-self g c.t t_not_root)
     told i (moves not_s not_t mover) =
-        rw (up-mover g c i not_s mover, ne_eqb i c.s not_s, s_in, under_is g c.t i t_not_root, mover-up g c i mover,
-        under-self g c.t t_not_root)
+        rw (
+          up-mover g c i not_s mover,
+          ne_eqb i c.s not_s,
+          s_in,
+          under_is g c.t i t_not_root,
+          mover-up g c i mover,
+          under-self g c.t t_not_root,
+        )
         (grind (arith, cases_Bool (i == c.t)))
     told i (stays not_s not_t other) =
-        rw (up-other_swap g c i not_s not_t other, ne_eqb i c.s not_s, under_is g c.t i t_not_root,
-        ne_eqb i c.t not_t)
+        rw (
+          up-other_swap g c i not_s not_t other,
+          ne_eqb i c.s not_s,
+          under_is g c.t i t_not_root,
+          ne_eqb i c.t not_t,
+        )
         refl
 
 -- t has under it what it keeps
