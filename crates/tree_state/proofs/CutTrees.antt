@@ -1,18 +1,18 @@
--- Complete histories are cut trees, and the least edge of a path in a cut tree is a least cut of its two ends.
-use Rattle.std.proofs.Common.{◌≡◌, ◌≢◌, inl, inr, ℕ, ◌≤◌, Bool, true, false, List, [], ◌∷◌, ◌++◌}
-use Rattle.std.proofs.Common.{sym, ◌∙◌, arith, refl}
+-- Complete histories are cut trees, and a set that parts two terminals of a cut tree costs at least the width of some
+-- edge on their path.
+use Rattle.std.proofs.Common.{◌≡◌, ◌≢◌, inl, inr, ℕ, ◌≤◌, true, false, List, [], ◌∷◌, ◌++◌, refl}
 use Rattle.std.specs.Prelude.{◌==◌}
 use Rattle.std.proofs.lemmas.Bool.{cases_Bool, false≢true, eqb-true}
 use Rattle.cut_model.specs.Net.{Net}
-use Rattle.cut_model.specs.Cuts.{RouterSet, differ, cut_value, IsLeastCut}
+use Rattle.cut_model.specs.Cuts.{RouterSet, differ, cut_value}
 use Rattle.cut_model.specs.Terminals.{IsTerminal, root_of}
-use Rattle.cut_model.proofs.Crossing.{cut_value-outside, parting_costs}
+use Rattle.cut_model.proofs.Crossing.{parting_costs}
 use Rattle.cut_model.proofs.Terminals.{terminal-lt}
 use Rattle.tree_state.specs.declared.entry.Entry.{Entry}
 use Rattle.tree_state.specs.Tables.{Table, below}
 use Rattle.tree_state.specs.History.{tables, entered, IsLegalAfter, IsComplete}
 use Rattle.tree_state.specs.Trees.{IsHalfBuiltTree, IsCutTree}
-use Rattle.tree_state.specs.Paths.{IsOnPath, IsLeastEdge, side_for}
+use Rattle.tree_state.specs.Paths.{IsOnPath}
 use Rattle.tree_state.proofs.HalfBuilt.{half_built}
 use Rattle.tree_state.proofs.Trees.{Tree, tree_of}
 use Rattle.tree_state.proofs.Paths.{IsCrossedAt, path_crossed}
@@ -23,7 +23,7 @@ use Rattle.tree_state.proofs.Paths.{IsCrossedAt, path_crossed}
 pub entered_terminal : (net : Net) (before history : List Entry) → IsLegalAfter net before history → (c : ℕ)
     → entered history c ≡ true → IsTerminal net c
 unfolding IsLegalAfter entered
-entered_terminal net before [] legal c yes_entered = absurd (false≢true yes_entered)
+entered_terminal net before [] legal c is_entered = absurd (false≢true is_entered)
 entered_terminal net before (entry ∷ history) legal c is_entered = elim (cases_Bool (c == entry.router)) [
   | inl here ↦ rw (eqb-true c entry.router here) legal.0.terminal
   | inr later ↦ entered_terminal net (before ++ entry ∷ []) history legal.1 c (rw later at is_entered)
@@ -68,62 +68,3 @@ path_bounds net root up width cut_tree Y a b a_is b_is holds lacks =
             (cut_tree.cuts found.0 found.1.on_path.terminal found.1.not_root) found.1.crossed;
       },
     )
-
--- ---- the least edge
-
--- of two values that differ, one is true and the other false
-differ-true : (p q : Bool) → differ p q ≡ true → p ≡ true → q ≡ false
-differ-true p q differing yes_p = grind (arith, cases_Bool q)
-
--- or the other way round
-differ-false : (p q : Bool) → differ p q ≡ true → p ≡ false → q ≡ true
-differ-false p q differing not_p = grind (arith, cases_Bool q)
-
--- the root is on no path, since both ends are below it
-on_path-not_root : (net : Net) (root : ℕ) (up width : Table) → IsCutTree net root up width → (a b c : ℕ)
-    → IsTerminal net a → IsTerminal net b → IsOnPath net up a b c → c ≢ root
-on_path-not_root net root up width cut_tree a b c a_is b_is on_path e =
-    let t : Tree net = tree_of net root up width cut_tree in
-    false≢true (sym (rw (e, t.meets a a_is, t.meets b b_is) refl) ∙ on_path.parting)
-
--- what is below the least edge costs its width
-least_edge-value : (net : Net) (root : ℕ) (up width : Table) → IsCutTree net root up width → (a b c : ℕ)
-    → IsTerminal net a → IsTerminal net b → IsLeastEdge net up width a b c
-    → cut_value net (below net.routers up c) ≡ width c
-least_edge-value net root up width cut_tree a b c a_is b_is edge =
-    (cut_tree.cuts c edge.on_path.terminal
-    (on_path-not_root net root up width cut_tree a b c a_is b_is edge.on_path)).value
-
--- and no set that holds a and lacks b costs less
-least_edge-least : (net : Net) (root : ℕ) (up width : Table) → IsCutTree net root up width → (a b c : ℕ)
-    → IsTerminal net a → IsTerminal net b → IsLeastEdge net up width a b c
-    → (Y : RouterSet) → Y a ≡ true → Y b ≡ false → width c ≤ cut_value net Y
-least_edge-least net root up width cut_tree a b c a_is b_is edge Y holds lacks =
-    let found : (e : ℕ) × IsBoundedAt net root up width Y a b e
-    = path_bounds net root up width cut_tree Y a b a_is b_is holds lacks in
-    omega (arith, found.1.bound, edge.least found.0 found.1.on_path)
-
--- so its side that holds a is a least cut of a from b
-pub least_edge_cut : (net : Net) (root : ℕ) (up width : Table) → IsCutTree net root up width → (a b c : ℕ)
-    → IsTerminal net a → IsTerminal net b → IsLeastEdge net up width a b c
-    → IsLeastCut net a b (side_for net.routers up a c) (width c)
-least_edge_cut net root up width cut_tree a b c a_is b_is edge = elim (cases_Bool (below net.routers up c a)) [
-  | inl a_below ↦ rw a_below record {
-    holds = a_below;
-    lacks = differ-true (below net.routers up c a) (below net.routers up c b) edge.on_path.parting a_below;
-    value = value;
-    least = least;
-  }
-  | inr a_above ↦ rw a_above record {
-    holds = rw a_above refl;
-    lacks = rw (differ-false (below net.routers up c a) (below net.routers up c b) edge.on_path.parting a_above) refl;
-    value = cut_value-outside net (below net.routers up c) ∙ value;
-    least = least;
-  }
-]
-  where
-    value : cut_value net (below net.routers up c) ≡ width c
-    value = least_edge-value net root up width cut_tree a b c a_is b_is edge
-
-    least : (Y : RouterSet) → Y a ≡ true → Y b ≡ false → width c ≤ cut_value net Y
-    least = least_edge-least net root up width cut_tree a b c a_is b_is edge

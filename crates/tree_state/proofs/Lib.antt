@@ -21,3 +21,5 @@ pub mod Trees
 pub mod Paths
 pub mod CutTrees
 pub mod Smallest
+pub mod LeastEdges
+pub mod WeakestEdges

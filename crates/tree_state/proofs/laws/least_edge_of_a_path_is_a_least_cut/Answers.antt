@@ -1,5 +1,4 @@
-use Rattle.tree_state.proofs.CutTrees.{least_edge_cut}
-use Rattle.tree_state.proofs.Smallest.{path_least_edge}
+use Rattle.tree_state.proofs.LeastEdges.{least_edge_cut, path_least_edge}
 use Rattle.tree_state.proofs.laws.least_edge_of_a_path_is_a_least_cut.Goals as goal
 
 pub returns-clause-some : goal.returns-clause-some

@@ -1,4 +1,4 @@
-use Rattle.tree_state.proofs.Smallest.{weakest_edge, weakest_edge_cut}
+use Rattle.tree_state.proofs.WeakestEdges.{weakest_edge, weakest_edge_cut}
 use Rattle.tree_state.proofs.laws.weakest_edge_is_a_global_cut.Goals as goal
 
 pub returns-clause-some : goal.returns-clause-some
