@@ -65,7 +65,7 @@ number_in-new X s (suc n) lacks low = elim (cases_eq s n) [
   | inl e ↦ (let here : X n ≡ false = rw e at lacks in
       let new : with_number s X n ≡ true = rw e (with_number-same n X) in
       let rest : number_in (with_number s X) n ≡ number_in X n
-          = number_in-same (with_number s X) X n (λ i lower. with_number-other s X i (λ q. omega arith)) in
+      = number_in-same (with_number s X) X n (λ i lower. with_number-other s X i (λ q. omega arith)) in
       rw (here, new) (omega (arith, rest)))
   | inr ne ↦ rw (with_number-other s X n (λ q. ne (sym q)))
       (omega (arith, number_in-new X s n lacks (omega arith)))

@@ -25,10 +25,20 @@ impl<'a> Model for LeastCut<'a> {
     ghost Value = { CutView };
 
     ghost view = { λ c. record {
-        net = c.net.now; router = c.router; neighbour = c.neighbour; side = c.side; value = c.value } };
+      net = c.net.now;
+      router = c.router;
+      neighbour = c.neighbour;
+      side = c.side;
+      value = c.value;
+    } };
 
     ghost invariant = { λ c. IsHeldCut (record {
-        net = c.net.now; router = c.router; neighbour = c.neighbour; side = c.side; value = c.value }) };
+      net = c.net.now;
+      router = c.router;
+      neighbour = c.neighbour;
+      side = c.side;
+      value = c.value;
+    }) };
 }
 
 impl<'a> LeastCut<'a> {
@@ -45,7 +55,12 @@ impl<'a> LeastCut<'a> {
         requires size { length side ≡ net.now.routers }
         requires least { IsLeastCut net.now router neighbour (set_of side) value }
         ensures { result ≡ record {
-            net = net.now; router = router; neighbour = neighbour; side = side; value = value } }
+          net = net.now;
+          router = router;
+          neighbour = neighbour;
+          side = side;
+          value = value;
+        } }
     {
         LeastCut {
             net,

@@ -32,7 +32,7 @@ legal_after_push net before [] entry legal may = (rw append-nil at may, tt)
 legal_after_push net before (first ∷ rest) entry legal may = (
   legal.0,
   legal_after_push net (before ++ first ∷ []) rest entry legal.1
-  (rw (append_assoc before (first ∷ []) rest) may),
+      (rw (append_assoc before (first ∷ []) rest) may),
 )
 
 -- and so any legal history

@@ -29,8 +29,14 @@ unfolding up_after
 up_after-lt n root up s t X i s_in ups t_in =
     let here : up i < n = ups i in
     let above : up t < n = ups t in
-    grind (arith, cases_Bool (i == s), cases_Bool (i == t), cases_Bool (swaps root up t X), cases_Bool (X i),
-    cases_Bool (up i == t))
+    grind (
+      arith,
+      cases_Bool (i == s),
+      cases_Bool (i == t),
+      cases_Bool (swaps root up t X),
+      cases_Bool (X i),
+      cases_Bool (up i == t),
+    )
 
 -- the empty history is bounded
 bounded_start : (net : Net) → root_of net < net.routers → IsBounded net []
@@ -79,5 +85,9 @@ pub length-lt-more : (net : Net) → root_of net < net.routers → (history : Li
     → IsLegal net history → MayFollow net history entry → suc (length history) < net.routers
 length-lt-more net room history entry legal may =
     let b : IsBounded net (history ++ entry ∷ []) = bounded_push net history entry (bounded net room history legal) may in
-    omega (arith, b.count, length_push history entry,
-    number_in-lt (entered (history ++ entry ∷ [])) (root_of net) net.routers b.root_free room)
+    omega (
+      arith,
+      b.count,
+      length_push history entry,
+      number_in-lt (entered (history ++ entry ∷ [])) (root_of net) net.routers b.root_free room,
+    )

@@ -33,9 +33,13 @@ pub up_swapped : (before now : List ℕ) (root s t : ℕ) (X : RouterSet) → Is
     → slice_index (set (set now s (slice_index before t)) t s) i ≡ up_after root (slice_index before) s t X i
 unfolding up_after
 up_swapped before now root s t X m swap i within =
-    rw (read (set now s (slice_index before t)) t s i
-        (omega (arith, length-set now s (slice_index before t), m.t_in, m.len)),
-    read now s (slice_index before t) i (omega (arith, m.s_in, m.len)), m.moved i within, swap)
+    rw (
+      read (set now s (slice_index before t)) t s i
+          (omega (arith, length-set now s (slice_index before t), m.t_in, m.len)),
+      read now s (slice_index before t) i (omega (arith, m.s_in, m.len)),
+      m.moved i within,
+      swap,
+    )
     (let holds : X s ≡ true = m.holds in let lacks : X t ≡ false = m.lacks in
     grind (arith, eqb_tells i s, eqb_tells i t, cases_Bool (X i), cases_Bool (slice_index before i == t)))
 
@@ -55,8 +59,11 @@ pub width_swapped : (up width : List ℕ) (root s t k : ℕ) (X : RouterSet) →
     ≡ width_after root (slice_index up) (slice_index width) s t k X i
 unfolding width_after
 width_swapped up width root s t k X holds lacks s_in t_in swap i =
-    rw (read (set width s (slice_index width t)) t k i (omega (arith, length-set width s (slice_index width t))),
-    read width s (slice_index width t) i s_in, swap)
+    rw (
+      read (set width s (slice_index width t)) t k i (omega (arith, length-set width s (slice_index width t))),
+      read width s (slice_index width t) i s_in,
+      swap,
+    )
     (grind (arith, eqb_tells i s, eqb_tells i t, cases_Bool (X i)))
 
 -- and of none

@@ -19,9 +19,9 @@ loop-place-preserved c = elim c.if-word-ne0.branch [
       }))
   | else-word-ne0 w ↦ (
       let bits : (i : ℕ) → i < 64 → (bit_at 0 i == 1) ≡ set_of c.args.side.now (64 * c.loop-place.place + i) =
-          subst (λ (word : ℕ). (i : ℕ) → i < 64 →
-          (bit_at word i == 1) ≡ set_of c.args.side.now (64 * c.loop-place.place + i))
-          w.if-word-ne0.false c.word-word.ensures in
+      subst (λ (word : ℕ). (i : ℕ) → i < 64 →
+      (bit_at word i == 1) ≡ set_of c.args.side.now (64 * c.loop-place.place + i))
+      w.if-word-ne0.false c.word-word.ensures in
       rw w.up-is (record {
         moved = empty_more c.loop-place.place c.args.s c.args.t (set_of c.args.side.now) c.loop-place.up
             c.args.up.now bits c.loop-place.invariant.moved c.loop-place.invariant.rest;

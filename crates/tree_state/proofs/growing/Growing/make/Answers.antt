@@ -8,10 +8,9 @@ use Rattle.tree_state.proofs.growing.Growing.make.Goals as goal
 pub invariant_of-result : goal.invariant_of-result
 invariant_of-result c =
     let routers : c.routers-routers.result ≡ (arc_value c.args.net).routers =
-        c.routers-routers.ensures.value ∙ ap (λ (net : Net). net.routers) c.deref.ensures in
+    c.routers-routers.ensures.value ∙ ap (λ (net : Net). net.routers) c.deref.ensures in
     let root : c.root-root.result ≡ root_of (arc_value c.args.net) =
-        c.root-root.ensures.value ∙ ap root_of c.deref-2.ensures in
-    (
+    c.root-root.ensures.value ∙ ap root_of c.deref-2.ensures in (
       rw (
         c.in_ok-table.ensures.items,
         c.in_ok-table-2.ensures.items,
@@ -20,7 +19,7 @@ invariant_of-result c =
         routers,
         root,
       )
-      (grown_start (arc_value c.args.net)),
+          (grown_start (arc_value c.args.net)),
       record {
         limits = subst (λ (net : Net). IsInLimits net.routers net.links) c.deref.ensures
             c.routers-routers.ensures.limits;
