@@ -23,3 +23,4 @@ pub mod CutTrees
 pub mod Smallest
 pub mod LeastEdges
 pub mod WeakestEdges
+pub mod PathExamples

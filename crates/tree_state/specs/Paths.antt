@@ -15,7 +15,7 @@ pub record IsOnPath (net : Net) (up : Table) (a b c : ℕ) : Type 0 where
   pub terminal : IsTerminal net c
   pub parting : parts net.routers up a b c ≡ true
 
--- The terminal of the smallest width on the path, and among these of the smallest number.
+-- The least edge of the path, named by its lower end: of the smallest width, and among these of the smallest number.
 pub record IsLeastEdge (net : Net) (up width : Table) (a b c : ℕ) : Type 0 where
   pub on_path : IsOnPath net up a b c
   pub least : (e : ℕ) → IsOnPath net up a b e → width c ≤ width e
@@ -25,7 +25,7 @@ pub record IsLeastEdge (net : Net) (up width : Table) (a b c : ℕ) : Type 0 whe
 abbrev pub side_for : ℕ → Table → ℕ → ℕ → RouterSet
 side_for n up a c = if below n up c a then below n up c else outside (below n up c)
 
--- The terminal other than the root of the smallest width, and among these of the smallest number.
+-- The weakest edge of the tree, named by its lower end: of the smallest width, and among these of the smallest number.
 pub record IsWeakest (net : Net) (root : ℕ) (width : Table) (c : ℕ) : Type 0 where
   pub terminal : IsTerminal net c
   pub not_root : c ≢ root
