@@ -1,7 +1,7 @@
 //! When a tree is complete.
 ghost use Rattle.std.specs.Prelude.{◌≡◌, ◌<◌, ◌&&◌, ◌==◌, not, IfErr, IfOk, IsFalse, IsTrue, OnErr, OnOk};
 ghost use Rattle.cut_model.specs.Terminals.{is_terminal, root_of};
-ghost use Rattle.tree_state.specs.History.{entered, AllEntered, SomeOpen};
+ghost use Rattle.tree_state.specs.History.{entered, IsComplete, SomeOpen};
 
 use tree_state::{Finished, Growing};
 
@@ -17,7 +17,7 @@ fn is_open(grow: &Growing, router: u32) -> bool
 
 /// Whether each terminal but the root was committed.
 fn all_done(grow: &Growing) -> bool
-    ensures done { IsTrue result → AllEntered grow.now.net grow.now.history }
+    ensures done { IsTrue result → IsComplete grow.now.net grow.now.history }
     ensures open { IsFalse result → SomeOpen grow.now.net grow.now.history }
 {
     for router in 0..grow.net().routers() {
@@ -32,7 +32,7 @@ fn all_done(grow: &Growing) -> bool
 /// wasn't committed, the growing tree is handed back. It looks at each router once, and takes no
 /// memory.
 pub fn complete(grow: Growing) -> Result<Finished, Growing>
-    ensures complete { OnOk result (AllEntered grow.net grow.history) }
+    ensures complete { OnOk result (IsComplete grow.net grow.history) }
     ensures finished { IfOk result (λ f. f ≡ grow) }
     ensures open { OnErr result (SomeOpen grow.net grow.history) }
     ensures back { IfErr result (λ g. g ≡ grow) }

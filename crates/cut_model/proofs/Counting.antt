@@ -58,7 +58,8 @@ number_in-same X Y (suc n) same =
     (number_in-same X Y n (λ i low. same i (omega arith))))
 
 -- a new number makes it one more
-pub number_in-new : (X : RouterSet) (s n : ℕ) → X s ≡ false → s < n → number_in (with_number s X) n ≡ suc (number_in X n)
+pub number_in-new : (X : RouterSet) (s n : ℕ) → X s ≡ false → s < n
+    → number_in (with_number s X) n ≡ suc (number_in X n)
 unfolding number_in
 number_in-new X s zero lacks low = absurd (omega arith)
 number_in-new X s (suc n) lacks low = elim (cases_eq s n) [

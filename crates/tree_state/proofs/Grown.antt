@@ -1,6 +1,6 @@
 -- What a growing tree keeps, from the empty history on and through each commit.
-use Rattle.std.proofs.Common.{◌≡◌, ◌≢◌, ◌⊎◌, inl, inr, ℕ, suc, ◌<◌, Bool, true, false, List, [], ◌∷◌, ◌++◌, length}
-use Rattle.std.proofs.Common.{set, replicate, sym, ap, ◌∙◌, refl, arith, subst, get_or-set_same, get_or-set_other}
+use Rattle.std.proofs.Common.{◌≡◌, ◌≢◌, ◌⊎◌, inl, inr, ℕ, ◌<◌, Bool, true, false, List, [], ◌∷◌, ◌++◌, length}
+use Rattle.std.proofs.Common.{set, replicate, sym, ap, ◌∙◌, refl, arith, get_or-set_same, get_or-set_other}
 use Rattle.std.proofs.Math.ListN.{length-set}
 use Rattle.std.proofs.lemmas.Bool.{cases_eq}
 use Rattle.std.proofs.lemmas.List.{length-replicate, get_or-replicate}
@@ -10,13 +10,13 @@ use Rattle.cut_model.specs.Cuts.{RouterSet, set_of}
 use Rattle.cut_model.specs.Held.{CutView, IsHeldCut}
 use Rattle.cut_model.specs.Terminals.{IsTerminal, root_of}
 use Rattle.cut_model.proofs.Counting.{with_number-same, with_number-other}
-use Rattle.cut_model.proofs.Terminals.{terminal-lt, root-lt}
+use Rattle.cut_model.proofs.Terminals.{root-lt}
 use Rattle.tree_state.specs.declared.entry.Entry.{Entry}
 use Rattle.tree_state.specs.Tables.{Table, Tables, up_after, width_after}
 use Rattle.tree_state.specs.History.{tables, entered, entry_of, MayFollow, IsLegalAfter}
 use Rattle.tree_state.specs.Growing.{IsGrown}
 use Rattle.tree_state.proofs.Histories.{tables-push, entered-push, legal_push}
-use Rattle.tree_state.proofs.Ranges.{bounded, length-lt, length-lt-more}
+use Rattle.tree_state.proofs.Ranges.{bounded, length-lt}
 
 -- the tables of the empty history
 pub grown_start : (net : Net)
@@ -111,7 +111,8 @@ grown_push net up width next_up next_width done history entry limits g may after
       (tables (root_of net) history).width entry.router entry.neighbour entry.value (set_of entry.side) i
       (g.up_is entry.neighbour neighbour_in) (g.width_is i low) (g.width_is entry.neighbour neighbour_in)
       ∙ ap (λ (T : Tables). T.width i) (sym (tables-push (root_of net) history entry));
-  done_is = λ i low. done_push done history entry net.routers i g.marks low (g.done_is i low) (cases_eq i entry.router);
+  done_is = λ i low.
+      done_push done history entry net.routers i g.marks low (g.done_is i low) (cases_eq i entry.router);
   legal = legal_push net history entry g.legal may;
 }
   where

@@ -1,5 +1,6 @@
 pub mod Histories
 pub mod Ranges
+pub mod Completed
 pub mod Words
 pub mod Written
 pub mod Grown
@@ -23,4 +24,5 @@ pub mod CutTrees
 pub mod Smallest
 pub mod LeastEdges
 pub mod WeakestEdges
+pub mod Examples
 pub mod PathExamples

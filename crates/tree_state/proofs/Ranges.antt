@@ -84,7 +84,8 @@ length-lt net room history legal =
 pub length-lt-more : (net : Net) → root_of net < net.routers → (history : List Entry) (entry : Entry)
     → IsLegal net history → MayFollow net history entry → suc (length history) < net.routers
 length-lt-more net room history entry legal may =
-    let b : IsBounded net (history ++ entry ∷ []) = bounded_push net history entry (bounded net room history legal) may in
+    let b : IsBounded net (history ++ entry ∷ []) =
+    bounded_push net history entry (bounded net room history legal) may in
     omega (
       arith,
       b.count,

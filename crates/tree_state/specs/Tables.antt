@@ -1,5 +1,5 @@
 -- The two tables of a tree that grows, and what one commit makes of them.
-use Rattle.std.specs.Prelude.{ℕ, zero, suc, Bool, not, ◌&&◌, ◌==◌, List, [], ◌∷◌, if◌then◌else◌}
+use Rattle.std.specs.Prelude.{ℕ, zero, suc, Bool, not, ◌&&◌, ◌==◌, List, [], ◌∷◌, slice_index, if◌then◌else◌}
 use Rattle.std.specs.List.{list_any}
 use Rattle.cut_model.specs.Cuts.{RouterSet}
 
@@ -11,6 +11,10 @@ Table = ℕ → ℕ
 pub record Tables : Type 0 where
   pub up : Table
   pub width : Table
+
+-- The tables that two lists hold.
+abbrev pub tables_of : List ℕ → List ℕ → Tables
+tables_of up width = record { up = slice_index up; width = slice_index width }
 
 -- The tables before any commit: every router hangs from the root.
 abbrev pub start : ℕ → Tables

@@ -1,8 +1,8 @@
 //! The tree when it is complete.
-ghost use Rattle.std.specs.Prelude.{◌≡◌, ◌<◌, Some, length, slice_get};
+ghost use Rattle.std.specs.Prelude.{◌≡◌, ◌+◌, ◌<◌, Some, length, slice_get};
 ghost use Rattle.std.specs.Arc.{arc_value};
-ghost use Rattle.cut_model.specs.Terminals.{IsTerminal, root_of};
-ghost use Rattle.tree_state.specs.History.{tables, AllEntered, IsComplete};
+ghost use Rattle.cut_model.specs.Terminals.{IsTerminal, terminal_count, root_of};
+ghost use Rattle.tree_state.specs.History.{tables, IsComplete};
 
 use crate::entry::Entry;
 use crate::growing::Growing;
@@ -32,11 +32,9 @@ impl Model for Finished {
 impl Finished {
     /// Holds a tree whose history is complete. It takes no memory.
     pub fn hold(grown: Growing) -> Finished
-        requires { AllEntered grown.net grown.history }
-        ensures value { result ≡ grown }
-        ensures complete { IsComplete result.net result.history }
+        requires { IsComplete grown.net grown.history }
+        ensures { result ≡ grown }
     {
-        grown.net();
         Finished { grown }
     }
 
@@ -79,7 +77,7 @@ impl Finished {
     /// How many commits made the tree, one for each terminal but the root.
     pub fn commits(&self) -> u32
         ensures value { result ≡ length self.now.history }
-        ensures few { result < self.now.net.routers }
+        ensures all { result + 1 ≡ terminal_count self.now.net }
     {
         self.grown.commits()
     }

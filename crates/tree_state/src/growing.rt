@@ -2,6 +2,7 @@
 ghost use Rattle.std.specs.Prelude.{◌≡◌, ◌≢◌, ◌<◌, ◌≤◌, ◌++◌, ◌∷◌, [], false, IfOk, Some};
 ghost use Rattle.std.specs.Prelude.{length, replicate, slice_get, vec_capacity};
 ghost use Rattle.std.specs.Arc.{arc_value};
+ghost use Rattle.cut_model.specs.Net.{IsInLimits};
 ghost use Rattle.cut_model.specs.Terminals.{IsTerminal, root_of};
 ghost use Rattle.tree_state.specs.History.{tables, entered, entry_of, IsLegal};
 
@@ -115,6 +116,7 @@ impl Growing {
     pub fn commits(&self) -> u32
         ensures value { result ≡ length self.now.history }
         ensures few { result < self.now.net.routers }
+        ensures limits { IsInLimits self.now.net.routers self.now.net.links }
     {
         self.history.len() as u32
     }

@@ -3,7 +3,8 @@ ghost use Rattle.std.specs.Prelude.{◌≡◌, ◌<◌, ◌==◌, ◌&&◌, if�
 ghost use Rattle.std.specs.Prelude.{length, slice_index, EachIndex};
 ghost use Rattle.std.specs.Int.{bit_at};
 ghost use Rattle.cut_model.specs.Cuts.{set_of};
-ghost use Rattle.tree_state.specs.Tables.{moved_to, swaps, up_after, width_after};
+ghost use Rattle.tree_state.specs.Tables.{tables_of, moved_to, swaps};
+ghost use Rattle.tree_state.specs.History.{commit, entry_of};
 ghost use Rattle.tree_state.specs.Words.{moved_by};
 
 use cut_model::{LeastCut, Side};
@@ -59,17 +60,17 @@ fn swaps(up: &[u32], root: u32, t: u32, side: &Side) -> bool
 }
 
 /// Changes the tables by the commit of a least cut (Gusfield, 1990): the routers of its side that hung
-/// from its neighbour hang from its router, and where the side has the router above the neighbour
-/// too, the two change places. The time is the number of routers, or a 64th of it where the side's
-/// words are empty.
+/// from its neighbour hang from its router. Where the neighbour isn't the root, and the side has the
+/// router above it too, router and neighbour change places. The time is at most proportional to the
+/// number of routers, and 64 routers at once are passed over where the side has none of them.
 pub fn commit_tables(up: &mut [u32], width: &mut [u64], root: u32, cut: &LeastCut)
     requires ups { length up.old ≡ cut.now.net.routers }
     requires widths { length width.old ≡ cut.now.net.routers }
     requires above { slice_index up.old cut.now.neighbour < cut.now.net.routers }
-    ensures up { EachIndex up.new (λ i. slice_index up.new i ≡
-        up_after root (slice_index up.old) cut.now.router cut.now.neighbour (set_of cut.now.side) i) }
-    ensures width { EachIndex width.new (λ i. slice_index width.new i ≡
-        width_after root (slice_index up.old) (slice_index width.old) cut.now.router cut.now.neighbour cut.now.value (set_of cut.now.side) i) }
+    ensures up { EachIndex up.new (λ i. slice_index up.new i
+        ≡ (commit root (tables_of up.old width.old) (entry_of cut.now)).up i) }
+    ensures width { EachIndex width.new (λ i. slice_index width.new i
+        ≡ (commit root (tables_of up.old width.old) (entry_of cut.now)).width i) }
 {
     let s = cut.router();
     let t = cut.neighbour();

@@ -96,9 +96,7 @@ fn start(alloc: Global, case: &Case) -> Result<Growing, Fail> {
             cap: *cap,
         })?;
     }
-    let net = Network::make(case.routers, links)
-        .ok()
-        .ok_or("no network")?;
+    let net = Network::make(case.routers, links).ok().ok_or("no network")?;
     Ok(Growing::make(alloc, Arc::new(alloc, net)?)?)
 }
 
@@ -141,7 +139,12 @@ fn trees_by_hand(rt: HostRuntime) -> Result<(), Fail> {
         for (up, width) in case.tree {
             router += 1;
             assert!(rt; router < tree.net().routers());
-            assert_eq!(rt; (tree.up(router), tree.width(router)), (*up, *width), "{}", case.name);
+            assert_eq!(rt;
+                (tree.up(router), tree.width(router)),
+                (*up, *width),
+                "{}",
+                case.name
+            );
         }
     }
     Ok(())
@@ -161,7 +164,10 @@ fn the_history_of_six_routers(rt: HostRuntime) -> Result<(), Fail> {
     for (router, neighbour, value, side) in entries {
         assert!(rt; place < tree.commits());
         let entry: &Entry = tree.entry(place);
-        assert_eq!(rt; (entry.router, entry.neighbour, entry.value), (router, neighbour, value));
+        assert_eq!(rt;
+            (entry.router, entry.neighbour, entry.value),
+            (router, neighbour, value)
+        );
         for other in 0..entry.side.size() {
             assert_eq!(rt; entry.side.has(other), side.contains(&other));
         }

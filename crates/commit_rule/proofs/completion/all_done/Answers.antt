@@ -8,5 +8,8 @@ returns-clause-done c =
     let routers : c.routers-router-end.result ≡ c.args.grow.now.net.routers =
     c.routers-router-end.ensures.value
     ∙ ap (λ (net : Net). net.routers) (c.deref.ensures ∙ c.net.ensures.value) in
-    λ _ r terminal not_root. c.loop-router.invariant r (omega (arith, terminal-lt c.args.grow.now.net r terminal))
-    terminal not_root
+    λ _. record {
+      legal = c.net.ensures.legal;
+      all = λ r terminal not_root. c.loop-router.invariant r
+          (omega (arith, terminal-lt c.args.grow.now.net r terminal)) terminal not_root;
+    }

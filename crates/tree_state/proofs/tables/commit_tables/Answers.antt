@@ -23,7 +23,12 @@ returns-then-swaps-clause-width c = λ i within.
     moved_by_cut c.args.cut.now c.router-s.result c.neighbour-t.result c.side-side.result.now c.args.up.now
     c.move_children.new.up c.router-s.ensures.cut c.router-s.ensures.value c.neighbour-t.ensures.value
     c.side-side.ensures.value c.requires.ups c.move_children.auto.up c.move_children.ensures in
-    rw (← c.router-s.ensures.value, ← c.neighbour-t.ensures.value, ← c.side-side.ensures.value, ← c.value-value.ensures.value)
+    rw (
+      ← c.router-s.ensures.value,
+      ← c.neighbour-t.ensures.value,
+      ← c.side-side.ensures.value,
+      ← c.value-value.ensures.value,
+    )
     (width_swapped c.args.up.now c.args.width.now c.args.root c.router-s.result c.neighbour-t.result
     c.value-value.result (set_of c.side-side.result.now) moved.holds moved.lacks (omega (arith, moved.s_in))
     (omega (arith, moved.t_in)) (sym c.swaps-swaps.ensures ∙ c.if-swaps.true) i)
@@ -47,7 +52,12 @@ returns-else-swaps-clause-width c = λ i within.
     moved_by_cut c.args.cut.now c.router-s.result c.neighbour-t.result c.side-side.result.now c.args.up.now
     c.move_children.new.up c.router-s.ensures.cut c.router-s.ensures.value c.neighbour-t.ensures.value
     c.side-side.ensures.value c.requires.ups c.move_children.auto.up c.move_children.ensures in
-    rw (← c.router-s.ensures.value, ← c.neighbour-t.ensures.value, ← c.side-side.ensures.value, ← c.value-value.ensures.value)
+    rw (
+      ← c.router-s.ensures.value,
+      ← c.neighbour-t.ensures.value,
+      ← c.side-side.ensures.value,
+      ← c.value-value.ensures.value,
+    )
     (width_plain c.args.up.now c.args.width.now c.args.root c.router-s.result c.neighbour-t.result
     c.value-value.result (set_of c.side-side.result.now) (omega (arith, moved.s_in))
     (sym c.swaps-swaps.ensures ∙ c.if-swaps.false) i)

@@ -1,6 +1,5 @@
-use Rattle.std.proofs.Common.{◌<◌, ap, subst}
+use Rattle.std.proofs.Common.{◌<◌, subst}
 use Rattle.cut_model.specs.Net.{Net}
-use Rattle.cut_model.specs.Terminals.{root_of}
 use Rattle.cut_model.proofs.Terminals.{all_terminals}
 use Rattle.cut_model.proofs.network.Network.root.Goals as goal
 

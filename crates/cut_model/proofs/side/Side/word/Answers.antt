@@ -1,4 +1,3 @@
-use Rattle.std.proofs.Common.{sym, ap, ◌∙◌, List, Bool, false, get_or}
 use Rattle.cut_model.proofs.Sides.{word_bits}
 use Rattle.cut_model.proofs.side.Side.word.Goals as goal
 
