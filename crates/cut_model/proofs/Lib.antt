@@ -1,4 +1,5 @@
 pub mod Sides
+pub mod Crossing
 pub mod Duality
 pub mod Closed
 pub mod Reached

@@ -2,6 +2,7 @@ pub mod Net
 pub mod Side
 pub mod Packing
 pub mod Cuts
+pub mod Crossing
 pub mod Terminals
 pub mod Held
 pub mod Flow

@@ -2,4 +2,6 @@ pub mod Tables
 pub mod Words
 pub mod History
 pub mod Trees
+pub mod Paths
+pub mod Laws
 pub mod Growing

@@ -2,12 +2,14 @@
 //!
 //! A `Growing` is Gusfield's tree of a network while it grows: its tables are exactly what the rule
 //! makes of the history of commits, and the history is legal. A `Finished` is one whose history is
-//! complete.
+//! complete. The laws in `laws` say what that gives: a legal history builds half a tree of least
+//! cuts, a complete one a cut tree, and the edges of a cut tree answer for all pairs of terminals.
 #![tactic(auto)]
 
 mod entry;
 mod finished;
 mod growing;
+pub mod laws;
 mod tables;
 
 pub use entry::Entry;
