@@ -10,12 +10,13 @@
 #
 # A figure is what one such round adds to the time for which processors run a process: the difference
 # between processes of many rounds and of one, by their numbers of rounds. The ways take turns, and
-# each figure is from the medians. The networks are made on the fly in a temporary folder, and all
-# output goes to /dev/null. It takes some minutes.
+# each figure is from the medians. What is in C++ is compiled by g++ and by clang++, whichever are
+# there, and the faster counts. The networks are made on the fly in a temporary folder, and all output
+# goes to /dev/null. It takes some minutes.
 #
 # Needs the timing program, which `rt run` in crates/flow_timing builds, and compilers for C and C++
 # beside what the program needs: the Debian packages gcc, g++ and libc6-dev (others: coreutils, gawk
-# or mawk; liblemon-dev for LEMON).
+# or mawk; clang; liblemon-dev for LEMON).
 set -u
 LC_ALL=C
 export LC_ALL
@@ -45,19 +46,44 @@ clusters* 2'
 # shellcheck source=bench/measuring.sh
 . bench/measuring.sh
 
-# compile_plus TOOL: a C++ program of this folder.
-compile_plus() {
-    "${CXX:-c++}" -std=c++17 -O3 -Wall -Wextra -o "$room/$1" "bench/$1.cpp"
+compilers=$(for compiler in g++ clang++; do
+    command -v "$compiler" >/dev/null && echo "$compiler"
+done)
+[ -n "$compilers" ] || {
+    echo 'neither g++ nor clang++ is installed' >&2
+    exit 1
 }
 
-compile_plus flow_kernel || exit 1
+# compile_plus TOOL: a C++ program of this folder, by each compiler.
+compile_plus() {
+    for compiler in $compilers; do
+        "$compiler" -std=c++17 -O3 -Wall -Wextra -o "$room/$1.$compiler" "bench/$1.cpp" || exit 1
+    done
+}
+
+# has_lemon: whether the compilers find LEMON.
+has_lemon() {
+    for compiler in $compilers; do
+        printf '#include <lemon/preflow.h>\n' | "$compiler" -E -x c++ - >/dev/null 2>&1 || return 1
+    done
+}
+
+compile_plus flow_kernel
 ways='session compared held kernel'
-if printf '#include <lemon/preflow.h>\n' | "${CXX:-c++}" -E -x c++ - >/dev/null 2>&1; then
-    compile_plus lemon_preflow || exit 1
+if has_lemon; then
+    compile_plus lemon_preflow
     ways="$ways lemon_flow lemon_cut"
 else
     echo "LEMON is left out: it isn't installed (apt-get install liblemon-dev)"
 fi
+
+# runs_of WAY: its runs, of which the fastest counts: of a way in C++ one by each compiler.
+runs_of() {
+    case $1 in
+    kernel | lemon_*) for compiler in $compilers; do echo "$1.$compiler"; done ;;
+    *) echo "$1" ;;
+    esac
+}
 
 # write_session ROUNDS: a session that loads the network, and so many times cuts all routers.
 write_session() {
@@ -79,30 +105,31 @@ sum_of_replies() {
     awk '$2 == "CUT" { sum += $3 } END { printf "%.0f\n", sum }'
 }
 
-# run_by WAY ROUNDS [WORD..]: a run of so many rounds, whose command stands behind these words.
-run_by() {
-    way=$1 count=$2
+# do_run RUN ROUNDS [WORD..]: a run of so many rounds, whose command stands behind these words.
+do_run() {
+    run=$1 count=$2
     shift 2
-    case $way in
+    work=${run%%.*} compiler=${run#*.}
+    case $work in
     session) "$@" "$program" plan <"$room/requests.$count" ;;
-    compared | held) "$@" "$timing" "$way" "$count" <"$room/network" ;;
-    kernel) "$@" "$room/flow_kernel" "$count" <"$room/network" ;;
-    lemon_*) "$@" "$room/lemon_preflow" "${way#lemon_}" "$count" <"$room/network" ;;
+    compared | held) "$@" "$timing" "$work" "$count" <"$room/network" ;;
+    kernel) "$@" "$room/flow_kernel.$compiler" "$count" <"$room/network" ;;
+    lemon_*) "$@" "$room/lemon_preflow.$compiler" "${work#lemon_}" "$count" <"$room/network" ;;
     esac
 }
 
-# sum_by WAY: the sum of the values of one round.
+# sum_by RUN: the sum of the values of one round.
 sum_by() {
     case $1 in
-    session) run_by session 1 | sum_of_replies ;;
-    *) run_by "$1" 1 ;;
+    session) do_run session 1 | sum_of_replies ;;
+    *) do_run "$1" 1 ;;
     esac
 }
 
-# expect_one_sum NETWORK: fails where the ways differ in the sum of the values.
+# expect_one_sum NETWORK: fails where the runs differ in the sum of the values.
 expect_one_sum() {
-    for way in $ways; do
-        printf '%s %s\n' "$(sum_by "$way")" "$way"
+    for run in $runs; do
+        printf '%s %s\n' "$(sum_by "$run")" "$run"
     done >"$room/sums"
     [ "$(cut -d ' ' -f 1 "$room/sums" | sort -u | wc -l)" -eq 1 ] || {
         printf 'the sums of the values differ on %s:\n' "$1" >&2
@@ -111,20 +138,27 @@ expect_one_sum() {
     }
 }
 
-# measure_by WAY ROUNDS: measures a run of so many rounds.
-measure_by() {
-    run_by "$1" "$2" measured "$1.$2"
-}
-
-# milliseconds_by WAY ROUNDS: what one round takes.
-milliseconds_by() {
-    awk -v many="$(median_of "$1.$2" 4)" -v one="$(median_of "$1.1" 4)" -v rounds="$2" \
-        'BEGIN { printf " %.4f", (many - one) / (rounds - 1) * 1000 }'
-    cut -d ' ' -f 3 "$room/$1.$2" "$room/$1.1" | grep -qv '^0$' && {
-        printf '%s ended with another status than 0\n' "$1" >&2
+# measure_run RUN ROUNDS: measures a run of so many rounds.
+measure_run() {
+    do_run "$1" "$2" measured "$1.$2"
+    [ "$(tail -n 1 "$room/$1.$2" | cut -d ' ' -f 3)" -eq 0 ] || {
+        printf '%s failed\n' "$1" >&2
         exit 1
     }
+}
+
+# milliseconds_of RUN ROUNDS: what one round takes.
+milliseconds_of() {
+    awk -v many="$(median_of "$1.$2" 4)" -v one="$(median_of "$1.1" 4)" -v rounds="$2" \
+        'BEGIN { printf "%.4f\n", (many - one) / (rounds - 1) * 1000 }'
     rm "$room/$1.$2" "$room/$1.1"
+}
+
+# milliseconds_by WAY ROUNDS: what one round takes in its fastest run.
+milliseconds_by() {
+    for run in $(runs_of "$1"); do
+        milliseconds_of "$run" "$2"
+    done | sort -n | head -n 1
 }
 
 # time_network NETWORK ROUNDS: appends the name, the number of cuts, and the milliseconds of each way.
@@ -134,20 +168,21 @@ time_network() {
     write_session "$2" >"$room/requests.$2"
     expect_one_sum "$1"
     for _ in $(seq "$rounds"); do
-        for way in $ways; do
-            measure_by "$way" 1
-            measure_by "$way" "$2"
+        for run in $runs; do
+            measure_run "$run" 1
+            measure_run "$run" "$2"
         done
     done
     {
         printf '%s %s' "$1" "$(grep -c '^CUT ' "$room/requests.1")"
         for way in $ways; do
-            milliseconds_by "$way" "$2"
+            printf ' %s' "$(milliseconds_by "$way" "$2")"
         done
         echo
     } >>"$room/times"
 }
 
+runs=$(for way in $ways; do runs_of "$way"; done)
 printf '%s\n' "$networks" | while read -r network count; do
     time_network "$network" "$count" || exit 1
 done || exit 1
