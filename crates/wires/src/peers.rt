@@ -13,21 +13,43 @@ ghost use Rattle.wires.specs.Memory.{counted, is_refused, one_more, put_writes, 
 
 use crate::{Failed, MemorySink, MemorySource, Sink, Source};
 
-/// A source and a sink that leave each other alone: a read leaves what was written and the count of
-/// write faults, and a put leaves what is left, whether the end was met and the count of read faults.
+/// A source and a sink that leave each other alone. A read leaves what the object shows as a sink, and
+/// a put what it shows as a source, since each depends alone on what the other call leaves.
 pub trait Peer: Source + Sink {
-    /// What the object is beside a source and a sink. Reads and puts leave it.
+    /// What the object is beside a source and a sink.
     ghost beside_peer: { Self → Beside };
 
-    /// What a sink shows depends on what is beside the source alone.
-    ghost reads_aside: { (x y : Self) → Self.beside_source x ≡ Self.beside_source y
-        → (Self.written x ≡ Self.written y) × (Self.write_faults x ≡ Self.write_faults y)
-        × (beside_peer x ≡ beside_peer y) × (Self.takes x ≡ Self.takes y) };
+    /// The bytes that were written depend on what is beside the source alone.
+    ghost read_leaves_written: { (x y : Self) → Self.beside_source x ≡ Self.beside_source y
+        → Self.written x ≡ Self.written y };
 
-    /// What a source shows depends on what is beside the sink alone.
-    ghost puts_aside: { (x y : Self) → Self.beside_sink x ≡ Self.beside_sink y
-        → (Self.left x ≡ Self.left y) × (Self.ended x ≡ Self.ended y)
-        × (Self.read_faults x ≡ Self.read_faults y) × (beside_peer x ≡ beside_peer y) };
+    /// So does the count of write faults.
+    ghost read_leaves_write_faults: { (x y : Self) → Self.beside_source x ≡ Self.beside_source y
+        → Self.write_faults x ≡ Self.write_faults y };
+
+    /// So does what puts surely take.
+    ghost read_leaves_takes: { (x y : Self) → Self.beside_source x ≡ Self.beside_source y
+        → Self.takes x ≡ Self.takes y };
+
+    /// So does what the object is beside both.
+    ghost read_leaves_beside: { (x y : Self) → Self.beside_source x ≡ Self.beside_source y
+        → beside_peer x ≡ beside_peer y };
+
+    /// The bytes that are left depend on what is beside the sink alone.
+    ghost put_leaves_left: { (x y : Self) → Self.beside_sink x ≡ Self.beside_sink y
+        → Self.left x ≡ Self.left y };
+
+    /// So does whether the end was met.
+    ghost put_leaves_ended: { (x y : Self) → Self.beside_sink x ≡ Self.beside_sink y
+        → Self.ended x ≡ Self.ended y };
+
+    /// So does the count of read faults.
+    ghost put_leaves_read_faults: { (x y : Self) → Self.beside_sink x ≡ Self.beside_sink y
+        → Self.read_faults x ≡ Self.read_faults y };
+
+    /// So does what the object is beside both.
+    ghost put_leaves_beside: { (x y : Self) → Self.beside_sink x ≡ Self.beside_sink y
+        → beside_peer x ≡ beside_peer y };
 }
 
 /// A peer in memory.
@@ -92,9 +114,21 @@ impl Sink for MemoryPeer {
 impl Peer for MemoryPeer {
     ghost beside_peer = { λ _. nothing_beside };
 
-    ghost reads_aside = { λ x y e. (bytes_of _ _ e, faults_of _ _ e, refl, refl) };
+    ghost read_leaves_written = { λ x y e. bytes_of _ _ e };
 
-    ghost puts_aside = { λ x y e. (bytes_of _ _ e, met_of _ _ e, faults_of _ _ e, refl) };
+    ghost read_leaves_write_faults = { λ x y e. faults_of _ _ e };
+
+    ghost read_leaves_takes = { λ x y e. refl };
+
+    ghost read_leaves_beside = { λ x y e. refl };
+
+    ghost put_leaves_left = { λ x y e. bytes_of _ _ e };
+
+    ghost put_leaves_ended = { λ x y e. met_of _ _ e };
+
+    ghost put_leaves_read_faults = { λ x y e. faults_of _ _ e };
+
+    ghost put_leaves_beside = { λ x y e. refl };
 }
 
 /// A peer over two objects. What it shows is what the two show.
@@ -142,7 +176,19 @@ impl<'a, S: Source, K: Sink> Peer for Pair<'a, S, K> {
     ghost beside_peer = { λ p.
         Two p.source.ghost_name (S.beside_source p.source.now) p.sink.ghost_name (K.beside_sink p.sink.now) };
 
-    ghost reads_aside = { λ x y e. (bytes_of _ _ e, faults_of _ _ e, peer_of _ _ e, takes_of _ _ e) };
+    ghost read_leaves_written = { λ x y e. bytes_of _ _ e };
 
-    ghost puts_aside = { λ x y e. (bytes_of _ _ e, met_of _ _ e, faults_of _ _ e, peer_of _ _ e) };
+    ghost read_leaves_write_faults = { λ x y e. faults_of _ _ e };
+
+    ghost read_leaves_takes = { λ x y e. takes_of _ _ e };
+
+    ghost read_leaves_beside = { λ x y e. peer_of _ _ e };
+
+    ghost put_leaves_left = { λ x y e. bytes_of _ _ e };
+
+    ghost put_leaves_ended = { λ x y e. met_of _ _ e };
+
+    ghost put_leaves_read_faults = { λ x y e. faults_of _ _ e };
+
+    ghost put_leaves_beside = { λ x y e. peer_of _ _ e };
 }
