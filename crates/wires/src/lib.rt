@@ -2,6 +2,7 @@
 //!
 //! A layer above reads from a [`Source`] and writes to a [`Sink`]. It is promised that every failure it
 //! is told of has a cause: the count of faults of that very object rose in that very call.
+//! A [`Peer`] is both, and its reads and puts leave each other alone.
 #![tactic(auto)]
 
 mod counting;
