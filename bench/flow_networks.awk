@@ -7,9 +7,10 @@
 #   star                  1,023 leaves about the first router
 #   chain                 1,024 routers in a row
 #   chords                a ring of 1,024 routers, and 1,024 links that are drawn
-#   clusters              511 clusters of three routers in a row, each with a short narrow way through
-#                         it and a wider one of two links; of the narrow ones no two are alike, so
-#                         that a flow along the row takes many phases of Dinic's method
+#   clusters              511 clusters of three routers in a row, each with one router in common with
+#                         the next, a short narrow way through it and a wider one of two links; of
+#                         the narrow ones no two are alike, so that a flow along the row takes many
+#                         phases of Dinic's method
 function draw() {
     state = (75 * state + 74) % 65537
     return state
