@@ -15,7 +15,7 @@ use Rattle.std.proofs.Math.Seq.{take-add}
 use Rattle.std.specs.Int.{bit_at, bit_not}
 use Rattle.std.specs.Int.Bits.{and_lt}
 use lib.Lanes.{mask_l}
-use Rattle.cut_model.specs.Packing.{length-bits_of, get_or-bits_of, words_of-bits_of, word_of-bits_of}
+use Rattle.cut_model.specs.Packing.{length-bits_of, get_or-bits_of, bit_of-at, words_of-bits_of, word_of-bits_of}
 use Rattle.cut_model.specs.Side.{bit_of, bits_of, words_of, IsHeld}
 
 -- ---- what a view says of the fields
@@ -29,6 +29,12 @@ pub value_is : (ws : List ℕ) (n r : ℕ) (xs : List Bool) → IsHeld ws n → 
     → eqb (bit_and (get_or ws (r / 64) 0 / 2 ^ (r % 64)) 1) 1 ≡ get_or xs r false
 value_is ws n r xs h e = ap (λ d. eqb d 1) (shr_and_one (get_or ws (r / 64) 0) (r % 64))
     ∙ sym (get_or-bits_of ws n r h) ∙ ap (λ ys. get_or ys r false) e
+
+-- the bits of a word are the truth values of its routers
+pub word_bits : (ws : List ℕ) (n k : ℕ) (xs : List Bool) → IsHeld ws n → bits_of ws n ≡ xs → (i : ℕ) → i < 64
+    → eqb (bit_at (get_or ws k 0) i) 1 ≡ get_or xs (64 * k + i) false
+word_bits ws n k xs h e i within = sym (bit_of-at ws k i within) ∙ sym (get_or-bits_of ws n (64 * k + i) h)
+    ∙ ap (λ ys. get_or ys (64 * k + i) false) e
 
 -- the words give a list of truth values that each bit agrees with
 pub same_bits : (ws : List ℕ) (n : ℕ) (xs : List Bool) → IsHeld ws n → length xs ≡ n

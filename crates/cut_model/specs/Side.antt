@@ -27,3 +27,7 @@ pub record IsHeld (words : List ℕ) (n : ℕ) : Type 0 where
   pub sixteen : length words ≡ 16
   pub fit : (i : ℕ) → slice_index words i < 2 ^ 64
   pub rest : (r : ℕ) → n ≤ r → bit_of words r ≡ false
+
+-- the 64 bits of a word are these truth values, the lowest bit first
+abbrev pub HasBits : ℕ → (ℕ → Bool) → Type 0
+HasBits word bits = (i : ℕ) → i < 64 → (bit_at word i == 1) ≡ bits i

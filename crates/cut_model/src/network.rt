@@ -2,6 +2,7 @@
 ghost use Rattle.std.specs.Prelude.{◌≡◌, ℕ, ◌<◌, ◌≤◌, ◌↔◌, All, IfErr, IfOk};
 ghost use Rattle.std.specs.Prelude.{IfSome, OnOk, IsTrue, Some, None, length, position};
 ghost use Rattle.cut_model.specs.Net.{IsInLimits, IsLink, has_end_outside, has_large_cap, net_fault};
+ghost use Rattle.cut_model.specs.Terminals.{is_terminal, IsTerminal, terminal_count, root_of};
 
 use std::marker::Model;
 use thiserror::Error;
@@ -143,5 +144,38 @@ impl Network {
         ensures { IsTrue result ↔ (self.now ≡ other.now) }
     {
         self.routers == other.routers && self.links == other.links
+    }
+    /// Whether a router is a terminal: one between which and others cuts may be asked for. Every
+    /// router is.
+    #[inline]
+    #[tactic(auto, unfolding(crate::specs::Terminals::is_terminal))]
+    pub fn is_terminal(&self, router: u32) -> bool
+        requires { router < self.now.routers }
+        ensures { result ≡ is_terminal self.now router }
+    {
+        router < self.routers
+    }
+
+    /// How many terminals there are, from 1 to 1,024.
+    #[inline]
+    pub fn terminals(&self) -> u32
+        ensures value { result ≡ terminal_count self.now }
+        ensures some { 0 < result }
+        ensures most { result ≤ self.now.routers }
+    {
+        self.routers
+    }
+
+    /// The root of all trees: the terminal of smallest number.
+    #[inline]
+    #[tactic(auto, unfolding(crate::specs::Terminals::root_of))]
+    pub fn root(&self) -> u32
+        ensures value { result ≡ root_of self.now }
+        ensures within { result < self.now.routers }
+        ensures terminal { IsTerminal self.now result }
+        ensures first { (r : ℕ) → IsTerminal self.now r → result ≤ r }
+    {
+        let _ = &self.routers;
+        0
     }
 }

@@ -1,7 +1,8 @@
 //! Sets of routers.
-ghost use Rattle.std.specs.Prelude.{◌≡◌, ◌<◌, ◌≤◌, ◌↔◌, true, false};
+ghost use Rattle.std.specs.Prelude.{◌≡◌, ◌+◌, ◌*◌, ◌<◌, ◌≤◌, ◌↔◌, true, false};
 ghost use Rattle.std.specs.Prelude.{length, replicate, slice_index_or, slice_set, IsTrue};
 ghost use Rattle.std.specs.List.{count_by};
+ghost use Rattle.cut_model.specs.Side.{HasBits};
 
 use std::marker::Model;
 
@@ -60,6 +61,16 @@ impl Side {
         ensures { result ≡ slice_index_or self.now router false }
     {
         self.words[(router / 64) as usize] >> (router % 64) & 1 == 1
+    }
+
+    /// The truth values of the 64 routers from `64 * place` on, the lowest bit first; those of numbers
+    /// past the size are 0.
+    #[inline]
+    pub fn word(&self, place: u32) -> u64
+        requires { place < 16 }
+        ensures { HasBits result (λ i. slice_index_or self.now (64 * place + i) false) }
+    {
+        self.words[place as usize]
     }
 
     /// Puts a router in. All others stay in or out.

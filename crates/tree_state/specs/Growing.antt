@@ -1,0 +1,22 @@
+-- A growing tree as contracts see it, and what the type keeps.
+use Rattle.std.specs.Prelude.{◌≡◌, ℕ, ◌<◌, Bool, false, List, length, slice_index, slice_index_or}
+use Rattle.cut_model.specs.Net.{Net, IsInLimits}
+use Rattle.cut_model.specs.Terminals.{root_of}
+use Rattle.tree_state.specs.declared.entry.Entry.{Entry}
+use Rattle.tree_state.specs.History.{tables, entered, IsLegal}
+
+-- A network, and the entries of the commits so far, the oldest first.
+pub record GrowingView : Type 0 where
+  pub net : Net
+  pub history : List Entry
+
+-- The lists of the tables and of the marks are those of a legal history, for each router.
+pub record IsGrown (net : Net) (up width : List ℕ) (done : List Bool) (history : List Entry) : Type 0 where
+  pub limits : IsInLimits net.routers net.links
+  pub ups : length up ≡ net.routers
+  pub widths : length width ≡ net.routers
+  pub marks : length done ≡ net.routers
+  pub up_is : (i : ℕ) → i < net.routers → slice_index up i ≡ (tables (root_of net) history).up i
+  pub width_is : (i : ℕ) → i < net.routers → slice_index width i ≡ (tables (root_of net) history).width i
+  pub done_is : (i : ℕ) → i < net.routers → slice_index_or done i false ≡ entered history i
+  pub legal : IsLegal net history

@@ -1,0 +1,4 @@
+pub mod Tables
+pub mod History
+pub mod Trees
+pub mod Growing
