@@ -5,7 +5,7 @@ use Rattle.std.proofs.lemmas.Bool.{false≢true}
 use Rattle.std.proofs.lemmas.Int.{ints}
 use Rattle.cut_model.specs.declared.network.Link.{Link}
 use Rattle.cut_model.specs.Cuts.{RouterSet, differ}
-use Rattle.cut_model.specs.Flow.{IsFull, IsWithinCaps, Leads}
+use Rattle.cut_model.specs.Flow.{IsClosed, IsFull, IsWithinCaps}
 
 -- what is not less than c is at least c
 not_less : (z : ℤ) (c : ℕ) → (z <ℤ pos c → ⊥) → pos c ≤ℤ z
@@ -28,7 +28,7 @@ full_link false true (negsuc x) c h there back =
 
 -- a set that no link leads out of is full
 pub closed_full : (links : List Link) (flow : List ℤ) (X : RouterSet) → IsWithinCaps links flow
-    → ((u v : ℕ) → X u ≡ true → Leads links flow u v → X v ≡ true) → IsFull X links flow
+    → IsClosed X links flow → IsFull X links flow
 closed_full [] flow X within closed = tt
 closed_full (link ∷ links) [] X within closed = absurd within
 closed_full (link ∷ links) (x ∷ flow) X within closed = (

@@ -1,6 +1,7 @@
 pub mod Sides
 pub mod Duality
 pub mod Closed
+pub mod Reached
 pub mod Faults
 pub mod Links
 pub mod Counting

@@ -1,5 +1,5 @@
 -- Sets of routers, what they cost, and least cuts.
-use Rattle.std.specs.Prelude.{◌≡◌, ℕ, ◌≤◌, Bool, true, false, not}
+use Rattle.std.specs.Prelude.{◌≡◌, ℕ, ◌<◌, ◌≤◌, Bool, true, false, not}
 use Rattle.std.specs.Prelude.{List, sum_by, slice_index_or, IsTrue, IsFalse, if◌then◌else◌}
 use Rattle.cut_model.specs.declared.network.Link.{Link}
 use Rattle.cut_model.specs.Net.{Net}
@@ -31,3 +31,8 @@ pub record IsLeastCut (net : Net) (s t : ℕ) (X : RouterSet) (k : ℕ) : Type 0
   pub lacks : IsFalse (X t)
   pub value : cut_value net X ≡ k
   pub least : (Y : RouterSet) → Y s ≡ true → Y t ≡ false → k ≤ cut_value net Y
+
+-- X is a cut of s from t that costs k, none costs less, and each router of X is in every other such cut.
+pub record IsLeastSide (net : Net) (s t : ℕ) (X : RouterSet) (k : ℕ) : Type 0 where
+  pub cut : IsLeastCut net s t X k
+  pub part : (Y : RouterSet) → IsLeastCut net s t Y k → (r : ℕ) → r < net.routers → X r ≡ true → Y r ≡ true

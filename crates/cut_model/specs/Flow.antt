@@ -1,6 +1,6 @@
 -- Flows, and the sets of routers that they fill.
 use Rattle.std.specs.Prelude.{◌≡◌, ◌≢◌, ◌⊎◌, ◌<ℤ◌, neg_ℤ, ℕ, ◌<◌, ◌≤◌, ℤ}
-use Rattle.std.specs.Prelude.{pos, ◌+ℤ◌, ◌-ℤ◌, nat_abs, ◌==◌, List, [], ◌∷◌, if◌then◌else◌}
+use Rattle.std.specs.Prelude.{pos, ◌+ℤ◌, ◌-ℤ◌, nat_abs, ◌==◌, true, List, [], ◌∷◌, if◌then◌else◌}
 use Rattle.cut_model.specs.declared.network.Link.{Link}
 use Rattle.cut_model.specs.Net.{Net}
 use Rattle.cut_model.specs.Cuts.{RouterSet, across}
@@ -49,3 +49,12 @@ abbrev pub Leads : List Link → List ℤ → ℕ → ℕ → Type 0
 Leads [] flow u v = ⊥
 Leads (link ∷ links) [] u v = ⊥
 Leads (link ∷ links) (x ∷ flow) u v = LinkLeads link x u v ⊎ Leads links flow u v
+
+-- No link could carry more out of the set.
+abbrev pub IsClosed : RouterSet → List Link → List ℤ → Type 0
+IsClosed X links flow = (u v : ℕ) → X u ≡ true → Leads links flow u v → X v ≡ true
+
+-- A chain of links that could carry more leads from s to a router.
+pub data Reaches (links : List Link) (flow : List ℤ) (s : ℕ) : ℕ → Type 0 where
+  here : Reaches links flow s s
+  on : {u v : ℕ} → Reaches links flow s u → Leads links flow u v → Reaches links flow s v

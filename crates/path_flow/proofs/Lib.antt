@@ -1,4 +1,3 @@
-pub mod Arcs
 pub mod OpenArcs
 pub mod Pushes
 pub mod Trees

@@ -67,8 +67,8 @@ fn look_from<L: Ledger>(
     ensures closed { IsFalse result → IsClosedAt graph.now side.new (router_at tree.old.entries from) }
 {
     let router = tree.entry(from).router;
-    for arc in graph.arcs_out(router) {
-        if reach(graph, *arc, from, t, tree, side, steps) {
+    for place in graph.places_of(router) {
+        if reach(graph, place.arc, from, t, tree, side, steps) {
             return true;
         }
     }

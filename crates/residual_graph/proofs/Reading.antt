@@ -1,167 +1,164 @@
--- What a call that reads may rely on at a router, at an arc and at a link.
-use Rattle.std.proofs.Common.{◌≡◌, ℕ, ◌+◌, ◌*◌, ◌/◌, ◌%◌, ◌<◌, ◌≤◌, List, length}
-use Rattle.std.proofs.Common.{get_or, sym, ap, ◌∙◌, subst, inl, inr, ne_eqb, arith}
-use Rattle.std.specs.Prelude.{pos, ◌≤ℤ◌, ◌==◌, slice_index_or}
-use Rattle.std.specs.List.{range_with_len}
-use Rattle.std.specs.List.Sorted.{IsStrictlyIncreasing}
-use Rattle.std.proofs.lemmas.List.FromFn.{length-range_with_len, get_or-range_with_len}
-use Rattle.std.proofs.lemmas.List.Sums.{length-filter, count_by-le-length}
-use Rattle.std.proofs.lemmas.List.Kept.{IsStrictlyIncreasing-filter}
-use Rattle.std.specs.Int.RustNames.{bit_xor}
-use Rattle.std.proofs.lemmas.Int.{ints}
-use Rattle.std.proofs.lemmas.Bool.{cases_eq}
+-- What a call that reads may rely on at a router, at a place, at an arc and at a link.
+use Rattle.std.proofs.Common.{◌≡◌, ℕ, ◌+◌, ◌-◌, ◌*◌, ◌<◌, ◌≤◌, List, length}
+use Rattle.std.proofs.Common.{get_or, take, sym, ap, ◌∙◌, subst, inl, inr, arith}
+use Rattle.std.specs.Prelude.{pos, ◌-ℤ◌}
+use Rattle.std.proofs.lemmas.Bool.{cases_lt}
+use Rattle.std.proofs.lemmas.List.{get_or-take, length-take-le}
 use Rattle.cut_model.specs.declared.network.Link.{Link}
 use Rattle.cut_model.specs.Net.{Net, IsInLimits}
-use Rattle.residual_graph.specs.Arcs.{no_link, arc_count, head_in, tail_in, head_of, tail_of, arcs_from}
-use Rattle.residual_graph.specs.Fills.{after}
+use Rattle.residual_graph.specs.Arcs.{no_link, arc_count}
 use Rattle.residual_graph.specs.Indexed.{IsGroup}
-use Rattle.residual_graph.specs.Storage.{cap_at, flow_at, view_of, IsStored}
-use Rattle.residual_graph.specs.View.{ResidualView, IsSound, left_on, pushed}
-use Rattle.residual_graph.proofs.Moves.{IsPush, push_is}
-use Rattle.residual_graph.proofs.Views.{net_is, flow_is, counts_are, head_is, left_is}
-use Rattle.residual_graph.proofs.Views.{sound_view, length-links_at, get_or-links_at, get_or-flows_at}
+use Rattle.residual_graph.specs.Places.{begin_of, no_place, place_at}
+use Rattle.residual_graph.specs.Storage.{flow_at, view_of, IsStored}
+use Rattle.residual_graph.specs.Touched.{Touches}
+use Rattle.residual_graph.specs.View.{ResidualView, IsSound, left_on}
+use Rattle.residual_graph.specs.declared.place.Place.{Place}
+use Rattle.residual_graph.proofs.ByPlace.{stored-at}
+use Rattle.residual_graph.proofs.Views.{flow_is, flows_within, get_or-flows_at, left_is, net_is}
 
--- A router's places are in the lists, and its arcs stand there.
-pub record AtRouter (first order heads : List ℕ) (net : Net) (router : ℕ) : Type 0 where
-  pub inside : router + 1 < length first
-  pub group : IsGroup net first order heads router
-  pub order_fits : arc_count net ≤ length order
-  pub heads_fit : arc_count net ≤ length heads
-  pub small : arc_count net ≤ 16384
+-- What the stored lists are of the view.
+pub record IsOf (routers links : ℕ) (first : List ℕ) (places : List Place) (kept : List Link) (left : List ℕ)
+    (view : ResidualView) : Type 0 where
+  pub routers_are : routers ≡ view.net.routers
+  pub links_are : take links kept ≡ view.net.links
+  pub count_is : links ≡ length view.net.links
+  pub limits : IsInLimits view.net.routers view.net.links
+  pub group : (router : ℕ) → router < view.net.routers → IsGroup view.net first places router
+  pub first_fits : view.net.routers < length first
+  pub places_fit : arc_count view.net ≤ length places
+  pub kept_fits : length view.net.links ≤ length kept
+  pub left_fits : arc_count view.net ≤ length left
+  pub few_routers : view.net.routers ≤ 1024
+  pub few_links : length view.net.links ≤ 8192
 
-pub at_router : (room_routers room_links routers links : ℕ) (first order heads head left : List ℕ) (view : ResidualView)
-    → IsStored room_routers room_links routers links first order heads head left
-    → view_of room_routers room_links routers links head left ≡ view → (router : ℕ) → router < view.net.routers
-    → AtRouter first order heads view.net router
-at_router room_routers room_links routers links first order heads head left view stored is router low =
-    let counts = counts_are room_routers room_links routers links head left view is in
-    let net = net_is room_routers room_links routers links head left view is in
-    let own : router < routers = omega (arith, counts.0) in record {
-      inside = omega (arith, own, stored.first_room, stored.routers_fit);
-      group = subst (λ n. IsGroup n first order heads router) net (stored.indexed router own);
-      order_fits = omega (arith, counts.2, stored.order_room, stored.links_fit);
-      heads_fit = omega (arith, counts.2, stored.heads_room, stored.links_fit);
-      small = omega (arith, counts.2, stored.few_links, stored.links_fit);
+-- the kept links are as many as there are links
+pub length-kept : {room_routers room_links routers links : ℕ} {first : List ℕ} {places : List Place} {kept : List Link}
+    {left : List ℕ} {touched : Touches}
+    → IsStored room_routers room_links routers links first places kept left touched → length (take links kept) ≡ links
+length-kept {links = links} {kept = kept} stored =
+    length-take-le links kept (omega (arith, stored.links_fit, stored.kept_room))
+
+-- stored lists are of the view that they mean
+pub is_of : {room_routers room_links routers links : ℕ} {first : List ℕ} {places : List Place} {kept : List Link}
+    {left : List ℕ} {touched : Touches}
+    → IsStored room_routers room_links routers links first places kept left touched
+    → (view : ResidualView) → view_of room_routers room_links routers (take links kept) left ≡ view
+    → IsOf routers links first places kept left view
+is_of {room_routers} {room_links} {routers} {links} {first} {places} {kept} {left} {touched} stored view is =
+    let net : record { routers = routers; links = take links kept } ≡ view.net =
+    net_is room_routers room_links routers (take links kept) left view is in
+    let count : links ≡ length view.net.links = sym (length-kept stored) ∙ ap (λ (n : Net). length n.links) net in
+    let same : routers ≡ view.net.routers = ap (λ (n : Net). n.routers) net in record {
+      routers_are = same;
+      links_are = ap (λ (n : Net). n.links) net;
+      count_is = count;
+      limits = subst (λ (n : Net). IsInLimits n.routers n.links) net stored.limits;
+      group = λ router low.
+          subst (λ (n : Net). IsGroup n first places router) net (stored.indexed router (omega (arith, same, low)));
+      first_fits = omega (arith, same, stored.first_room, stored.routers_fit);
+      places_fit = omega (arith, count, stored.places_room, stored.links_fit);
+      kept_fits = omega (arith, count, stored.kept_room, stored.links_fit);
+      left_fits = omega (arith, count, stored.left_room, stored.links_fit);
+      few_routers = omega (arith, same, stored.routers_fit, stored.few_routers);
+      few_links = omega (arith, count, stored.links_fit, stored.few_links);
     }
 
--- An arc is in the lists, and what they have of it is what contracts say.
-pub record AtArc (head left : List ℕ) (view : ResidualView) (arc : ℕ) : Type 0 where
-  pub head_inside : arc < length head
-  pub left_inside : arc < length left
-  pub head_is : get_or head arc 0 ≡ head_of view.net arc
-  pub left_is : pos (get_or left arc 0) ≡ left_on view arc
-
-pub at_arc : (room_routers room_links routers links : ℕ) (first order heads head left : List ℕ) (view : ResidualView)
-    → IsStored room_routers room_links routers links first order heads head left
-    → view_of room_routers room_links routers links head left ≡ view → (arc : ℕ) → arc < arc_count view.net
-    → AtArc head left view arc
-at_arc room_routers room_links routers links first order heads head left view stored is arc low =
-    let counts = counts_are room_routers room_links routers links head left view is in
-    let net = net_is room_routers room_links routers links head left view is in
-    let own : arc < 2 * links = omega (arith, counts.2) in record {
-      head_inside = omega (arith, own, stored.head_room, stored.links_fit);
-      left_inside = omega (arith, own, stored.left_room, stored.links_fit);
-      head_is = sym (head_is head left links arc own) ∙ ap (λ n. head_of n arc) net;
-      left_is =
-          sym (left_is room_routers room_links routers links first order heads head left stored arc own)
-          ∙ ap (λ v. left_on v arc) is;
-    }
-
--- A link's two numbers are in the list, and the flow by them is what contracts say.
-pub record AtLink (left : List ℕ) (view : ResidualView) (link : ℕ) : Type 0 where
-  pub inside : 2 * link + 1 < length left
-  pub pair : get_or left (2 * link) 0 + get_or left (2 * link + 1) 0 ≡ 2 * cap_at left link
-  pub cap : cap_at left link ≤ 1000000000000
-  pub flow_is : flow_at left link ≡ slice_index_or view.flow link (pos 0)
-
-pub at_link : (room_routers room_links routers links : ℕ) (first order heads head left : List ℕ) (view : ResidualView)
-    → IsStored room_routers room_links routers links first order heads head left
-    → view_of room_routers room_links routers links head left ≡ view → (link : ℕ) → link < length view.net.links
-    → AtLink left view link
-at_link room_routers room_links routers links first order heads head left view stored is link low =
-    let counts = counts_are room_routers room_links routers links head left view is in
-    let own : link < links = omega (arith, counts.1) in
-    let within = stored.limits.within link no_link (omega (arith, own, length-links_at head left links)) in record {
-      inside = omega (arith, own, stored.left_room, stored.links_fit);
-      pair = stored.pairs link own;
-      cap = omega (arith, within.cap, ap (λ (l : Link). l.cap) (get_or-links_at head left links link own));
-      flow_is =
-          sym (get_or-flows_at left links link own)
-          ∙ ap (λ flow. slice_index_or flow link (pos 0))
-          (flow_is room_routers room_links routers links head left view is);
-    }
-
--- An arc goes to one of the network's routers, and leaves one.
-pub head_below : (net : Net) → IsInLimits net.routers net.links → (arc : ℕ) → arc < arc_count net
-    → head_of net arc < net.routers
-unfolding head_in
-head_below net limits arc low =
-    let link = limits.within (arc / 2) no_link (omega arith) in
-    elim (cases_eq (arc % 2) 0) [ inl even ↦ rw even link.b | inr odd ↦ rw (ne_eqb (arc % 2) 0 odd) link.a ]
-
-pub tail_below : (net : Net) → IsInLimits net.routers net.links → (arc : ℕ) → arc < arc_count net
-    → tail_of net arc < net.routers
-unfolding tail_in
-tail_below net limits arc low =
-    let link = limits.within (arc / 2) no_link (omega arith) in
-    elim (cases_eq (arc % 2) 0) [ inl even ↦ rw even link.a | inr odd ↦ rw (ne_eqb (arc % 2) 0 odd) link.b ]
-
--- What a view is worth to callers.
-pub sound_of : (room_routers room_links routers links : ℕ) (first order heads head left : List ℕ) (view : ResidualView)
-    → IsStored room_routers room_links routers links first order heads head left
-    → view_of room_routers room_links routers links head left ≡ view → IsSound view
-sound_of room_routers room_links routers links first order heads head left view stored is =
-    subst IsSound is (sound_view room_routers room_links routers links first order heads head left stored)
-
--- The arcs that leave a router ascend, so that each of them stands at one place alone.
-ascends_from : (a n : ℕ) → IsStrictlyIncreasing (range_with_len a n)
-ascends_from a n = λ k low.
-    let here : k < n = omega (arith, length-range_with_len a n) in
-    let next : k + 1 < n = omega (arith, length-range_with_len a n) in
-    omega (arith, get_or-range_with_len a n k 0 here, get_or-range_with_len a n (k + 1) 0 next)
-
-pub arcs_ascend : (net : Net) (router : ℕ) → IsStrictlyIncreasing (arcs_from net router)
-unfolding arcs_from
-arcs_ascend net router =
-    IsStrictlyIncreasing-filter (λ arc. tail_of net arc == router) (range_with_len 0 (arc_count net))
-    (ascends_from 0 (arc_count net))
-
--- No more arcs leave a router than there are.
-pub few_arcs : (net : Net) (router : ℕ) → length (arcs_from net router) ≤ arc_count net
-unfolding arcs_from
-few_arcs net router =
-    omega (
-      arith,
-      length-filter (λ arc. tail_of net arc == router) (range_with_len 0 (arc_count net)),
-      count_by-le-length (λ arc. tail_of net arc == router) (range_with_len 0 (arc_count net)),
-      length-range_with_len 0 (arc_count net),
-    )
-
--- What a push of an amount along an arc needs, and what contracts then see.
-pub record PushAt (room_routers room_links routers links : ℕ) (first order heads head left : List ℕ)
-    (view : ResidualView)
-    (arc amount : ℕ) : Type 0 where
-  pub enough : amount ≤ get_or left arc 0
-  pub inside : arc < length left
-  pub push : IsPush room_routers room_links routers links first order heads head left arc (bit_xor arc 1) amount
-  pub view_is :
-      view_of room_routers room_links routers links head (after left arc (bit_xor arc 1) amount)
-      ≡ record view { flow = pushed view.flow arc amount }
-
-pub push_at : (room_routers room_links routers links : ℕ) (first order heads head left : List ℕ) (view : ResidualView)
-    → IsStored room_routers room_links routers links first order heads head left
-    → view_of room_routers room_links routers links head left ≡ view → (arc amount : ℕ) → arc < arc_count view.net
-    → pos amount ≤ℤ left_on view arc
-    → PushAt room_routers room_links routers links first order heads head left view arc amount
+-- what a view is worth to callers
+pub sound_of : {room_routers room_links routers links : ℕ} {first : List ℕ} {places : List Place} {kept : List Link}
+    {left : List ℕ} {touched : Touches}
+    → IsStored room_routers room_links routers links first places kept left touched
+    → (view : ResidualView) → view_of room_routers room_links routers (take links kept) left ≡ view → IsSound view
 unfolding view_of
-push_at room_routers room_links routers links first order heads head left view stored is arc amount low left_over =
-    let at = at_arc room_routers room_links routers links first order heads head left view stored is arc low in
-    let counts = counts_are room_routers room_links routers links head left view is in
-    let enough : amount ≤ get_or left arc 0 = omega (arith, ints, at.left_is, left_over) in
-    let push = push_is room_routers room_links routers links first order heads head left arc amount stored
-    (omega (arith, counts.2)) enough in record {
-      enough = enough;
-      inside = at.left_inside;
-      push = push;
-      view_is = push.view ∙ ap (λ (v : ResidualView). record v { flow = pushed v.flow arc amount }) is;
+sound_of {links = links} {kept = kept} {left = left} stored view is = subst IsSound is (record {
+  routers = stored.routers_fit;
+  links = omega (arith, length-kept stored, stored.links_fit);
+  room_routers = stored.few_routers;
+  room_links = stored.few_links;
+  limits = stored.limits;
+  within = flows_within (take links kept) left stored.pairs;
+})
+
+-- ---- by place
+
+-- where a router's places begin
+pub record IsBegin (first : List ℕ) (net : Net) (router : ℕ) : Type 0 where
+  pub is : get_or first router 0 ≡ begin_of net router
+  pub most : get_or first router 0 ≤ arc_count net
+
+-- it is stored, behind the last router too
+pub begin_is : {routers links : ℕ} {first : List ℕ} {places : List Place} {kept : List Link} {left : List ℕ}
+    {view : ResidualView} → IsOf routers links first places kept left view → (router : ℕ) → router ≤ view.net.routers
+    → IsBegin first view.net router
+begin_is {first = first} {view = view} of router low = elim (cases_lt router view.net.routers) [
+  | inl less ↦
+      let group = of.group router less in
+      record { is = group.begins; most = omega (arith, group.rises, group.most) }
+  | inr last ↦
+      let some = of.limits.some in
+      let next : router - 1 + 1 ≡ router = omega arith in
+      let group = of.group (router - 1) (omega arith) in
+      record {
+        is = subst (λ r. get_or first r 0 ≡ begin_of view.net r) next group.ends;
+        most = subst (λ r. get_or first r 0 ≤ arc_count view.net) next group.most;
+      }
+]
+
+-- what stands at a place
+pub place_is : {routers links : ℕ} {first : List ℕ} {places : List Place} {kept : List Link} {left : List ℕ}
+    {view : ResidualView} → IsOf routers links first places kept left view → (at : ℕ) → at < arc_count view.net
+    → get_or places at no_place ≡ place_at view.net at
+place_is {first = first} {places = places} {view = view} of at low =
+    stored-at view.net of.limits first places of.group at low
+
+-- ---- by link
+
+-- a kept link is the network's
+pub kept_is : {routers links : ℕ} {first : List ℕ} {places : List Place} {kept : List Link} {left : List ℕ}
+    {view : ResidualView} → IsOf routers links first places kept left view → (i : ℕ) → i < length view.net.links
+    → get_or kept i no_link ≡ get_or view.net.links i no_link
+kept_is {links = links} {kept = kept} of i low =
+    sym (get_or-take links kept i no_link (omega (arith, of.count_is)))
+    ∙ ap (λ (ls : List Link). get_or ls i no_link) of.links_are
+
+-- its capacity is within the limit
+pub cap_small : (net : Net) → IsInLimits net.routers net.links → (i : ℕ) → i < length net.links
+    → (get_or net.links i no_link).cap ≤ 1000000000000
+cap_small net limits i low = (limits.within i no_link low).cap
+
+-- what is stored of an arc is what is left on it
+pub left_at : {room_routers room_links routers links : ℕ} {first : List ℕ} {places : List Place} {kept : List Link}
+    {left : List ℕ} {touched : Touches}
+    → IsStored room_routers room_links routers links first places kept left touched
+    → (view : ResidualView) → view_of room_routers room_links routers (take links kept) left ≡ view
+    → (arc : ℕ) → arc < arc_count view.net → pos (get_or left arc 0) ≡ left_on view arc
+left_at {room_routers} {room_links} {routers} {links} {first} {places} {kept} {left} stored view is arc low =
+    let of = is_of stored view is in
+    sym (left_is room_routers room_links routers (take links kept) left stored.pairs arc
+    (omega (arith, of.count_is, length-kept stored)))
+    ∙ ap (λ v. left_on v arc) is
+
+-- the capacity less what is left on the first arc is the flow, and what is left is at most twice the capacity
+pub record IsFlowAt (kept : List Link) (left : List ℕ) (view : ResidualView) (i : ℕ) : Type 0 where
+  pub is : flow_at kept left i ≡ get_or view.flow i (pos 0)
+  pub cap : (get_or kept i no_link).cap ≤ 1000000000000
+  pub most : get_or left (2 * i) 0 ≤ 2000000000000
+
+-- they are stored so
+pub flow_at_link : {room_routers room_links routers links : ℕ} {first : List ℕ} {places : List Place} {kept : List Link}
+    {left : List ℕ} {touched : Touches}
+    → IsStored room_routers room_links routers links first places kept left touched
+    → (view : ResidualView) → view_of room_routers room_links routers (take links kept) left ≡ view
+    → (i : ℕ) → i < length view.net.links → IsFlowAt kept left view i
+flow_at_link {room_routers} {room_links} {routers} {links} {first} {places} {kept} {left} stored view is i low =
+    let of = is_of stored view is in
+    let own : i < links = omega (arith, of.count_is) in
+    let inside : i < length (take links kept) = omega (arith, length-kept stored) in
+    let same : get_or (take links kept) i no_link ≡ get_or kept i no_link = get_or-take links kept i no_link own in
+    let cap : (get_or kept i no_link).cap ≤ 1000000000000 =
+    subst (λ (l : Link). l.cap ≤ 1000000000000) same (stored.limits.within i no_link inside).cap in record {
+      is = ap (λ (l : Link). pos l.cap -ℤ pos (get_or left (2 * i) 0)) (sym same)
+          ∙ sym (get_or-flows_at (take links kept) left i inside)
+          ∙ ap (λ flow. get_or flow i (pos 0)) (flow_is room_routers room_links routers (take links kept) left view is);
+      cap = cap;
+      most = omega (arith, cap, stored.pairs i inside, ap (λ (l : Link). l.cap) same);
     }

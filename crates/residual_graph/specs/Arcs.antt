@@ -1,5 +1,5 @@
 -- The arcs of a network: link i gives arc 2i from its end a to its end b, and arc 2i + 1 back.
-use Rattle.std.specs.Prelude.{ℕ, ◌*◌, ◌/◌, ◌%◌, ◌==◌, List, length, filter, slice_index_or, if◌then◌else◌}
+use Rattle.std.specs.Prelude.{ℕ, ◌+◌, ◌-◌, ◌*◌, ◌/◌, ◌%◌, ◌==◌, Bool, List, length, filter, slice_index_or, if◌then◌else◌}
 use Rattle.std.specs.List.{range_with_len}
 use Rattle.cut_model.specs.declared.network.Link.{Link}
 use Rattle.cut_model.specs.Net.{Net}
@@ -35,3 +35,15 @@ arc_count net = 2 * length net.links
 -- The arcs that leave a router, in ascending order.
 unfoldable pub arcs_from : Net → ℕ → List ℕ
 arcs_from net router = filter (λ arc. tail_of net arc == router) (range_with_len 0 (arc_count net))
+
+-- The arc of the same link the other way.
+unfoldable pub twin : ℕ → ℕ
+twin arc = if arc % 2 == 0 then arc + 1 else arc - 1
+
+-- An arc, or its twin where it is to be turned.
+abbrev pub turned : Bool → ℕ → ℕ
+turned back arc = if back then twin arc else arc
+
+-- The capacity of an arc's link.
+abbrev pub cap_of : Net → ℕ → ℕ
+cap_of net arc = (link_of net.links arc).cap

@@ -1,5 +1,7 @@
 pub mod Arcs
+pub mod Places
 pub mod View
-pub mod Storage
-pub mod Indexed
+pub mod Touched
 pub mod Fills
+pub mod Indexed
+pub mod Storage

@@ -1,13 +1,17 @@
 //! Residual graphs.
-ghost use Rattle.std.specs.Prelude.{◌≡◌, ℕ, ◌+◌, ◌*◌, ◌<◌, ◌≤◌, ◌≤ℤ◌, IfOk};
-ghost use Rattle.std.specs.Prelude.{[], length, map, pos, replicate, slice_index_or, slice_index};
+ghost use Rattle.std.specs.Prelude.{◌≡◌, ℕ, ◌+◌, ◌*◌, ◌<◌, ◌≤◌, ◌≤ℤ◌, ◌↔◌, All, IfOk, IsTrue};
+ghost use Rattle.std.specs.Prelude.{[], drop, length, pos, replicate, slice_index_or, slice_index, sum_by, true};
 ghost use Rattle.std.specs.List.Sorted.{IsStrictlyIncreasing};
-ghost use Rattle.residual_graph.specs.Arcs.{arc_count, arcs_from, head_of};
+ghost use Rattle.residual_graph.specs.Arcs.{arc_count, arcs_from, cap_of, head_of, tail_of, turned};
+ghost use Rattle.residual_graph.specs.Places.{IsPlaceOf, begin_of, no_place, place_at, place_of, places_from};
 ghost use Rattle.residual_graph.specs.View.{IsSound, left_on, pushed};
 
-use crate::capacities::{flow_of_pair, move_amount, set_left};
-use crate::index::{group, has_heads, index_arcs, set_heads};
-use cut_model::{Network, NoMemory, Steps};
+use crate::capacities::{flow_of, keep, move_amount, restore, set_left};
+use crate::index::{group, index_arcs};
+use crate::place::Place;
+use crate::same::is_same;
+use crate::touched::Touched;
+use cut_model::{Link, Network, NoMemory, Steps};
 use std::alloc::Global;
 use std::marker::Model;
 use std::sync::ledger::Ledger;
@@ -22,14 +26,14 @@ pub struct Residual {
     links: u32,
     /// The place of each router's first arc, and behind them the number of arcs.
     first: Vec<u32>,
-    /// The arc at each place, router by router, in ascending order at each.
-    order: Vec<u32>,
-    /// The head of the arc at each place.
-    heads: Vec<u32>,
-    /// The head of each arc.
-    head: Vec<u32>,
+    /// The arc at each place with its head, router by router, in ascending order at each.
+    places: Vec<Place>,
+    /// The links as they were loaded.
+    kept: Vec<Link>,
     /// What is left on each arc.
     left: Vec<u64>,
+    /// The links that carry flow are among these.
+    touched: Touched,
 }
 
 impl Model for Residual {
@@ -37,12 +41,13 @@ impl Model for Residual {
 
     ghost Value = { ResidualView };
 
+    ghost use Rattle.std.specs.Prelude.{take};
     ghost use Rattle.residual_graph.specs.Storage.{view_of, IsStored};
 
-    ghost view = { λ r. view_of r.room_routers r.room_links r.routers r.links r.head.items r.left.items };
+    ghost view = { λ r. view_of r.room_routers r.room_links r.routers (take r.links r.kept.items) r.left.items };
 
     ghost invariant = { λ r. IsStored r.room_routers r.room_links r.routers r.links
-        r.first.items r.order.items r.heads.items r.head.items r.left.items };
+        r.first.items r.places.items r.kept.items r.left.items r.touched };
 }
 
 impl Residual {
@@ -65,16 +70,16 @@ impl Residual {
             routers: 1,
             links: 0,
             first: vec![in alloc; 0; routers as usize + 1]?,
-            order: vec![in alloc; 0; arcs]?,
-            heads: vec![in alloc; 0; arcs]?,
-            head: vec![in alloc; 0; arcs]?,
+            places: vec![in alloc; Place { head: 0, arc: 0 }; arcs]?,
+            kept: vec![in alloc; Link { a: 0, b: 0, cap: 0 }; links as usize]?,
             left: vec![in alloc; 0; arcs]?,
+            touched: Touched::with_room(alloc, links)?,
         })
     }
 
-    /// Holds the network from now on, with no flow on any link. It looks at each link twice, and
-    /// sorts the arcs by their tails only where an end, or the number of routers or links, differs
-    /// from what is held.
+    /// Holds the network from now on, with no flow on any link. Where it is the network that is held
+    /// already, each link is compared once, and the flow is undone. Else the arcs are sorted by their
+    /// tails anew, in time in proportion to the numbers of routers and links.
     pub fn load(&mut self, net: &Network)
         requires routers { net.now.routers ≤ self.old.room_routers }
         requires links { length net.now.links ≤ self.old.room_links }
@@ -84,23 +89,50 @@ impl Residual {
         ensures flow { self.new.flow ≡ replicate (length net.now.links) (pos 0) }
         ensures sound { IsSound self.new }
     {
-        let routers = net.routers();
-        let links = net.links();
-        let count = links.len() as u32;
-        set_left(links, &mut self.left);
-        if self.routers == routers && self.links == count && has_heads(links, &self.head) {
-            return;
+        if self.holds(net) {
+            self.undo();
+        } else {
+            self.take_in(net);
         }
-        self.routers = routers;
-        self.links = count;
-        set_heads(links, &mut self.head);
-        index_arcs(
-            routers,
-            links,
-            &mut self.first,
-            &mut self.order,
-            &mut self.heads,
-        );
+    }
+
+    /// Whether the network is the one that is held.
+    fn holds(&self, net: &Network) -> bool
+        ensures { IsTrue result ↔ (self.now.net ≡ net.now) }
+    {
+        self.routers == net.routers() && is_same(&self.kept[..self.links as usize], net.links())
+    }
+
+    /// Holds another network, with no flow on any link.
+    fn take_in(&mut self, net: &Network)
+        requires routers { net.now.routers ≤ self.old.room_routers }
+        requires links { length net.now.links ≤ self.old.room_links }
+        ensures room_routers { self.new.room_routers ≡ self.old.room_routers }
+        ensures room_links { self.new.room_links ≡ self.old.room_links }
+        ensures net { self.new.net ≡ net.now }
+        ensures flow { self.new.flow ≡ replicate (length net.now.links) (pos 0) }
+        ensures sound { IsSound self.new }
+    {
+        let links = net.links();
+        self.routers = net.routers();
+        self.links = links.len() as u32;
+        keep(links, &mut self.kept);
+        index_arcs(self.routers, links, &mut self.first, &mut self.places);
+        set_left(links, &mut self.left);
+        self.touched.clear();
+    }
+
+    /// Takes all flow back: each link has none, as after `load`, and the network is the same. It looks
+    /// at the links alone that carried flow since the last `load` or `undo`, unless these pushes were
+    /// more than there is room for links.
+    pub fn undo(&mut self)
+        ensures value { self.new
+            ≡ record self.old { flow = replicate (length self.old.net.links) (pos 0) } }
+        ensures sound { IsSound self.new }
+    {
+        let links = &self.kept[..self.links as usize];
+        restore(&self.touched, links, &mut self.left);
+        self.touched.clear();
     }
 
     /// What is left on an arc. One step.
@@ -114,6 +146,17 @@ impl Residual {
         self.left[arc as usize]
     }
 
+    /// What is left on an arc, or on its twin, the arc of the same link the other way. One step.
+    #[inline]
+    pub fn left_along<L: Ledger>(&self, arc: u32, back: bool, steps: &mut Steps<L>) -> u64
+        requires { arc < arc_count self.now.net }
+        ensures value { pos result ≡ left_on self.now (turned back arc) }
+        ensures steps { steps.new ≡ steps.old + 1 }
+    {
+        steps.tick();
+        self.left[(arc ^ u32::from(back)) as usize]
+    }
+
     /// Sends an amount along an arc, at most what is left on it. One step.
     #[inline]
     pub fn push<L: Ledger>(&mut self, arc: u32, amount: u64, steps: &mut Steps<L>)
@@ -124,7 +167,10 @@ impl Residual {
         ensures steps { steps.new ≡ steps.old + 1 }
     {
         steps.tick();
-        move_amount(&mut self.left, arc, arc ^ 1, amount);
+        let twin = arc ^ 1;
+        let still = self.left[arc as usize] == self.left[twin as usize];
+        self.touched.note_if(still, arc / 2);
+        move_amount(&mut self.left, arc, twin, amount);
     }
 
     /// The number of arcs that leave a router. `arc` gives each of them at just one place below it.
@@ -135,7 +181,7 @@ impl Residual {
         ensures ascending { IsStrictlyIncreasing (arcs_from self.now.net router) }
         ensures sound { IsSound self.now }
     {
-        group(&self.first, &self.order, router).len() as u32
+        self.first[router as usize + 1] - self.first[router as usize]
     }
 
     /// The arc at a place among those that leave a router, in ascending order.
@@ -145,7 +191,7 @@ impl Residual {
         requires place { place < length (arcs_from self.now.net router) }
         ensures { result ≡ slice_index (arcs_from self.now.net router) place }
     {
-        group(&self.first, &self.order, router)[place as usize]
+        self.places_of(router)[place as usize].arc
     }
 
     /// The router to which an arc goes.
@@ -155,7 +201,8 @@ impl Residual {
         ensures value { result ≡ head_of self.now.net arc }
         ensures router { result < self.now.net.routers }
     {
-        self.head[arc as usize]
+        let link = self.kept[arc as usize / 2];
+        if arc % 2 == 0 { link.b } else { link.a }
     }
 
     /// The flow on a link, positive from its end a to its end b.
@@ -164,26 +211,71 @@ impl Residual {
         requires { link < length self.now.net.links }
         ensures { result ≡ slice_index_or self.now.flow link (pos 0) }
     {
-        flow_of_pair(&self.left, link)
+        let link = link as usize;
+        flow_of(self.kept[link].cap, self.left[2 * link])
     }
 
-    /// The arcs that leave a router, in ascending order.
+    /// The arcs that leave a router, in ascending order, each with its head.
     #[inline]
-    pub fn arcs_out(&self, router: u32) -> &[u32]
+    pub fn places_of(&self, router: u32) -> &[Place]
         requires { router < self.now.net.routers }
-        ensures value { result.now ≡ arcs_from self.now.net router }
+        ensures value { result.now ≡ places_from self.now.net router }
+        ensures each { All (IsPlaceOf self.now.net router) result.now }
+        ensures every { (arc : ℕ) → arc < arc_count self.now.net → tail_of self.now.net arc ≡ router →
+            (i : ℕ) × (i < length result.now) × (slice_index_or result.now i no_place ≡ place_of self.now.net arc) }
         ensures sound { IsSound self.now }
     {
-        group(&self.first, &self.order, router)
+        group(&self.first, &self.places, router)
     }
 
-    /// The heads of the arcs that leave a router, in the order of `arcs_out`.
+    /// The number of a router's first place among the places of all routers, one router's behind
+    /// another's. For the number of routers it is the number of arcs.
     #[inline]
-    pub fn heads_out(&self, router: u32) -> &[u32]
-        requires { router < self.now.net.routers }
-        ensures value { result.now ≡ map (head_of self.now.net) (arcs_from self.now.net router) }
+    pub fn begin(&self, router: u32) -> u32
+        requires { router ≤ self.now.net.routers }
+        ensures value { result ≡ begin_of self.now.net router }
+        ensures most { result ≤ arc_count self.now.net }
+        ensures end { begin_of self.now.net self.now.net.routers ≡ arc_count self.now.net }
+    {
+        self.first[router as usize]
+    }
+
+    /// The place of that number. Those of a router are numbered from its `begin` on, in the order of
+    /// `places_of`.
+    #[inline]
+    pub fn place(&self, at: u32) -> Place
+        requires { at < arc_count self.now.net }
+        ensures value { result ≡ place_at self.now.net at }
+        ensures nth { (router i : ℕ) → router < self.now.net.routers → i < length (arcs_from self.now.net router) →
+            at ≡ begin_of self.now.net router + i → result ≡ slice_index_or (places_from self.now.net router) i no_place }
+        ensures arc { result.arc < arc_count self.now.net }
+        ensures head { result.head < self.now.net.routers }
         ensures sound { IsSound self.now }
     {
-        group(&self.first, &self.heads, router)
+        self.places[at as usize]
+    }
+
+    /// Writes each router's first place to the front of a list, and leaves the rest of it.
+    pub fn copy_begins(&self, cursor: &mut [u32])
+        requires { self.now.net.routers ≤ length cursor.old }
+        ensures begins { (router : ℕ) → router < self.now.net.routers →
+            slice_index cursor.new router ≡ begin_of self.now.net router }
+        ensures rest { drop self.now.net.routers cursor.new ≡ drop self.now.net.routers cursor.old }
+    {
+        let routers = self.routers as usize;
+        cursor[..routers].copy_from_slice(&self.first[..routers]);
+    }
+
+    /// The capacities of the arcs that leave a router, together: a link from the router to itself
+    /// counts twice.
+    pub fn around(&self, router: u32) -> u64
+        requires { router < self.now.net.routers }
+        ensures { result ≡ sum_by (cap_of self.now.net) (arcs_from self.now.net router) }
+    {
+        let mut sum = 0u64;
+        for place in self.places_of(router) {
+            sum += self.kept[place.arc as usize / 2].cap;
+        }
+        sum
     }
 }

@@ -1,32 +1,39 @@
-use Rattle.std.proofs.Common.{◌≡◌, ap, length, ◌∙◌, arith}
-use Rattle.residual_graph.specs.Arcs.{arcs_from}
-use Rattle.residual_graph.proofs.Reading.{at_router, sound_of, arcs_ascend, few_arcs}
+use Rattle.std.proofs.Common.{◌+◌, length, refl, arith}
+use Rattle.std.proofs.lemmas.List.{get_or_read_under}
+use Rattle.residual_graph.proofs.ByPlace.{begin-next}
+use Rattle.residual_graph.proofs.Listed.{arcs_ascend}
+use Rattle.residual_graph.proofs.Reading.{is_of, sound_of}
 use Rattle.residual_graph.proofs.residual.Residual.arcs_of.Goals as goal
 
-pub group-requires : goal.group-requires
-group-requires c =
-    let at = at_router _ _ _ _ _ _ _ _ _ _ c.self.invariant c.self.view_is c.args.router c.requires in
-    rw (c.deref.ensures.value, c.deref-2.ensures.value) (record {
-      router = at.inside;
-      rises = at.group.rises;
-      ends = omega (arith, at.group.ends, at.order_fits);
-    })
+pub index-requires : goal.index-requires
+index-requires c = omega (arith, (is_of c.self.invariant c.args.self.now c.self.view_is).first_fits)
+
+pub index-requires-2 : goal.index-requires-2
+index-requires-2 c = omega (arith, (is_of c.self.invariant c.args.self.now c.self.view_is).first_fits)
+
+pub overflow_sub-result : goal.overflow_sub-result
+overflow_sub-result c =
+    let of = is_of c.self.invariant c.args.self.now c.self.view_is in
+    let first = c.self.inside.first.items in
+    let to = get_or_read_under first (c.args.router + 1) (length first) _ 0 c.index.ensures
+    (omega (arith, of.first_fits)) refl in
+    let from = get_or_read_under first c.args.router (length first) _ 0 c.index-2.ensures
+    (omega (arith, of.first_fits)) refl in
+    omega (arith, (of.group c.args.router c.requires).rises, to, from)
 
 pub returns-clause-value : goal.returns-clause-value
 returns-clause-value c =
-    ap length (c.group.ensures
-    ∙ rw (c.deref.ensures.value, c.deref-2.ensures.value)
-    (at_router _ _ _ _ _ _ _ _ _ _ c.self.invariant c.self.view_is c.args.router c.requires).group.arcs_at)
+    let of = is_of c.self.invariant c.args.self.now c.self.view_is in
+    let first = c.self.inside.first.items in
+    let to = get_or_read_under first (c.args.router + 1) (length first) _ 0 c.index.ensures
+    (omega (arith, of.first_fits)) refl in
+    let from = get_or_read_under first c.args.router (length first) _ 0 c.index-2.ensures
+    (omega (arith, of.first_fits)) refl in
+    let group = of.group c.args.router c.requires in
+    omega (arith, to, from, group.begins, group.ends, begin-next c.args.self.now.net c.args.router)
 
 pub returns-clause-ascending : goal.returns-clause-ascending
 returns-clause-ascending c = arcs_ascend c.args.self.now.net c.args.router
 
 pub returns-clause-sound : goal.returns-clause-sound
-returns-clause-sound c = sound_of _ _ _ _ _ _ _ _ _ _ c.self.invariant c.self.view_is
-
-pub overflow_cast-result : goal.overflow_cast-result
-overflow_cast-result c =
-    let at = at_router _ _ _ _ _ _ _ _ _ _ c.self.invariant c.self.view_is c.args.router c.requires in
-    let same : c.group.result.now ≡ arcs_from c.args.self.now.net c.args.router =
-    c.group.ensures ∙ rw (c.deref.ensures.value, c.deref-2.ensures.value) at.group.arcs_at in
-    omega (arith, ap length same, few_arcs c.args.self.now.net c.args.router, at.small)
+returns-clause-sound c = sound_of c.self.invariant c.args.self.now c.self.view_is

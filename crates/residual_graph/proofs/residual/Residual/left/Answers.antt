@@ -1,15 +1,15 @@
-use Rattle.std.proofs.Common.{ap, ◌∙◌, arith}
+use Rattle.std.proofs.Common.{ap, length, refl, ◌∙◌, arith}
 use Rattle.std.specs.Prelude.{pos}
-use Rattle.std.proofs.lemmas.Grind.{get_or_default_zero}
-use Rattle.residual_graph.proofs.Reading.{at_arc}
+use Rattle.std.proofs.lemmas.List.{get_or_read_under}
+use Rattle.residual_graph.proofs.Reading.{is_of, left_at}
 use Rattle.residual_graph.proofs.residual.Residual.left.Goals as goal
 
 pub index-requires : goal.index-requires
-index-requires g c =
-    let at = at_arc _ _ _ _ _ _ _ _ _ _ c.self.invariant c.self.view_is c.args.arc c.requires in
-    omega (arith, at.left_inside)
+index-requires g c = omega (arith, (is_of c.self.invariant c.args.self.now c.self.view_is).left_fits)
 
 pub returns-clause-value : goal.returns-clause-value
 returns-clause-value g c =
-    let at = at_arc _ _ _ _ _ _ _ _ _ _ c.self.invariant c.self.view_is c.args.arc c.requires in
-    ap pos (c.index.ensures ∙ get_or_default_zero _ _ _ at.left_inside) ∙ at.left_is
+    let of = is_of c.self.invariant c.args.self.now c.self.view_is in
+    ap pos (get_or_read_under c.self.inside.left.items c.args.arc (length c.self.inside.left.items) _ 0
+    c.index.ensures (omega (arith, of.left_fits)) refl)
+    ∙ left_at c.self.invariant c.args.self.now c.self.view_is c.args.arc c.requires
