@@ -43,7 +43,8 @@ with_name-known : (names : List (List ℕ)) (router : ℕ) → router < length n
     → with_name names (name_at names router) ≡ names
 with_name-known names router below =
     let name = name_at names router in
-    let known = list_any_at (bytes_eq name) names router [] below ((bytes_eq-Decides name name).1 refl) in rw known refl
+    let same = (bytes_eq-Decides name name).1 refl in
+    let known = list_any_at (bytes_eq name) names router [] below same in rw known refl
 
 -- So are the names of both ends of a link.
 pub with_ends-known : (names : List (List ℕ)) (a b : ℕ) → a < length names → b < length names
