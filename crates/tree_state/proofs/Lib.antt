@@ -1,0 +1,5 @@
+pub mod Histories
+pub mod Ranges
+pub mod Words
+pub mod Written
+pub mod Grown

@@ -3,9 +3,14 @@ use Rattle.std.specs.Prelude.{◌≡◌, ◌≢◌, ℕ, true, false, ◌==◌, 
 use Rattle.std.specs.List.{list_any}
 use Rattle.cut_model.specs.Net.{Net}
 use Rattle.cut_model.specs.Cuts.{RouterSet, set_of, IsLeastCut}
+use Rattle.cut_model.specs.Held.{CutView}
 use Rattle.cut_model.specs.Terminals.{IsTerminal, root_of}
 use Rattle.tree_state.specs.declared.entry.Entry.{Entry}
 use Rattle.tree_state.specs.Tables.{Tables, start, up_after, width_after}
+
+-- The entry of a held cut.
+abbrev pub entry_of : CutView → Entry
+entry_of cut = record { router = cut.router; neighbour = cut.neighbour; value = cut.value; side = cut.side }
 
 -- The tables after the commit of an entry.
 abbrev pub commit : ℕ → Tables → Entry → Tables
@@ -51,3 +56,10 @@ AllEntered net history =
 pub record IsComplete (net : Net) (history : List Entry) : Type 0 where
   pub legal : IsLegal net history
   pub all : AllEntered net history
+
+-- Some terminal but the root has no entry.
+pub record SomeOpen (net : Net) (history : List Entry) : Type 0 where
+  pub router : ℕ
+  pub terminal : IsTerminal net router
+  pub not_root : router ≢ root_of net
+  pub fresh : entered history router ≡ false

@@ -35,6 +35,10 @@ width_after root up width s t k X i =
     else if (i == t) && swaps root up t X then k
     else width i
 
+-- What is above each router once those of the side that hung from t hang from s.
+abbrev pub moved_to : ℕ → Table → ℕ → RouterSet → Table
+moved_to s up t X i = if X i && (up i == t) then s else up i
+
 -- The way up of a router, of n routers: the router, the one above it, and so on.
 abbrev pub way_up : Table → ℕ → ℕ → List ℕ
 way_up up zero i = []

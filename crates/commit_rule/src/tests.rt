@@ -1,0 +1,1 @@
+//! Trees of small networks, worked by hand.

@@ -1,0 +1,119 @@
+-- What a growing tree keeps, from the empty history on and through each commit.
+use Rattle.std.proofs.Common.{◌≡◌, ◌≢◌, ◌⊎◌, inl, inr, ℕ, suc, ◌<◌, Bool, true, false, List, [], ◌∷◌, ◌++◌, length}
+use Rattle.std.proofs.Common.{set, replicate, sym, ap, ◌∙◌, refl, arith, subst, get_or-set_same, get_or-set_other}
+use Rattle.std.proofs.Math.ListN.{length-set}
+use Rattle.std.proofs.lemmas.Bool.{cases_eq}
+use Rattle.std.proofs.lemmas.List.{length-replicate, get_or-replicate}
+use Rattle.std.specs.Prelude.{slice_index, slice_index_or}
+use Rattle.cut_model.specs.Net.{Net, IsInLimits}
+use Rattle.cut_model.specs.Cuts.{RouterSet, set_of}
+use Rattle.cut_model.specs.Held.{CutView, IsHeldCut}
+use Rattle.cut_model.specs.Terminals.{IsTerminal, root_of}
+use Rattle.cut_model.proofs.Counting.{with_number-same, with_number-other}
+use Rattle.cut_model.proofs.Terminals.{terminal-lt, root-lt}
+use Rattle.tree_state.specs.declared.entry.Entry.{Entry}
+use Rattle.tree_state.specs.Tables.{Table, Tables, up_after, width_after}
+use Rattle.tree_state.specs.History.{tables, entered, entry_of, MayFollow, IsLegalAfter}
+use Rattle.tree_state.specs.Growing.{IsGrown}
+use Rattle.tree_state.proofs.Histories.{tables-push, entered-push, legal_push}
+use Rattle.tree_state.proofs.Ranges.{bounded, length-lt, length-lt-more}
+
+-- the tables of the empty history
+pub grown_start : (net : Net)
+    → IsGrown net (replicate net.routers (root_of net)) (replicate net.routers 0) (replicate net.routers false) []
+unfolding tables entered IsLegalAfter
+grown_start net = record {
+  ups = length-replicate net.routers (root_of net);
+  widths = length-replicate net.routers 0;
+  marks = length-replicate net.routers false;
+  up_is = λ i low. get_or-replicate net.routers i (root_of net) 0 low;
+  width_is = λ i low. get_or-replicate net.routers i 0 0 low;
+  done_is = λ i low. get_or-replicate net.routers i false false low;
+  legal = tt;
+}
+
+-- a held cut makes an entry that may follow
+pub may_follow : (net : Net) (history : List Entry) (cut : CutView) → IsHeldCut cut → cut.net ≡ net
+    → IsTerminal net cut.router → cut.router ≢ root_of net → entered history cut.router ≡ false
+    → cut.neighbour ≡ (tables (root_of net) history).up cut.router → MayFollow net history (entry_of cut)
+may_follow net history cut held same terminal not_root fresh neighbour = record {
+  terminal = terminal;
+  not_root = not_root;
+  fresh = fresh;
+  neighbour = neighbour;
+  size = held.size ∙ ap (λ (n : Net). n.routers) same;
+  least = rw (← same) held.least;
+}
+
+-- what is above a router is one of the network
+pub above-lt : {net : Net} {up width : List ℕ} {done : List Bool} {history : List Entry}
+    → IsGrown net up width done history → IsInLimits net.routers net.links → (i : ℕ) → i < net.routers
+    → slice_index up i < net.routers
+above-lt {net = net} {history = history} g limits i low =
+    rw (g.up_is i low) ((bounded net (root-lt net limits) history g.legal).ups i)
+
+-- there are fewer entries than routers
+pub entries-lt : {net : Net} {up width : List ℕ} {done : List Bool} {history : List Entry}
+    → IsGrown net up width done history → IsInLimits net.routers net.links → length history < net.routers
+entries-lt {net = net} {history = history} g limits = length-lt net (root-lt net limits) history g.legal
+
+-- a commit at two places of a table reads the table there alone
+up_after-same : (root : ℕ) (up other : Table) (s t : ℕ) (X : RouterSet) (i : ℕ) → up i ≡ other i → up t ≡ other t
+    → up_after root up s t X i ≡ up_after root other s t X i
+unfolding up_after
+up_after-same root up other s t X i here there = rw (here, there) refl
+
+-- and so of the widths
+width_after-same : (root : ℕ) (up other width wide : Table) (s t k : ℕ) (X : RouterSet) (i : ℕ) → up t ≡ other t
+    → width i ≡ wide i → width t ≡ wide t
+    → width_after root up width s t k X i ≡ width_after root other wide s t k X i
+unfolding width_after
+width_after-same root up other width wide s t k X i above here there = rw (above, here, there) refl
+
+-- What the lists are after the commit of an entry.
+pub record IsCommitted (net : Net) (up width next_up next_width : List ℕ) (entry : Entry) : Type 0 where
+  pub ups : length next_up ≡ length up
+  pub widths : length next_width ≡ length width
+  pub up_is :
+      (i : ℕ) → i < length next_up → slice_index next_up i
+      ≡ up_after (root_of net) (slice_index up) entry.router entry.neighbour (set_of entry.side) i
+  pub width_is :
+      (i : ℕ) → i < length next_width → slice_index next_width i
+      ≡ width_after (root_of net) (slice_index up) (slice_index width) entry.router entry.neighbour entry.value
+      (set_of entry.side) i
+
+-- the marks are those of the entered routers
+done_push : (done : List Bool) (history : List Entry) (entry : Entry) (n i : ℕ) → length done ≡ n → i < n
+    → slice_index_or done i false ≡ entered history i → (i ≡ entry.router) ⊎ (i ≢ entry.router)
+    → slice_index_or (set done entry.router true) i false ≡ entered (history ++ entry ∷ []) i
+done_push done history entry n i len low same (inl here) =
+    rw (entered-push history entry i, here, with_number-same entry.router (entered history))
+    (get_or-set_same done entry.router true false (omega arith))
+done_push done history entry n i len low same (inr other) =
+    rw (entered-push history entry i, with_number-other entry.router (entered history) i other)
+    (get_or-set_other done entry.router i true false other ∙ same)
+
+-- a commit keeps a tree grown
+pub grown_push : (net : Net) (up width next_up next_width : List ℕ) (done : List Bool) (history : List Entry)
+    (entry : Entry) → IsInLimits net.routers net.links → IsGrown net up width done history
+    → MayFollow net history entry → IsCommitted net up width next_up next_width entry
+    → IsGrown net next_up next_width (set done entry.router true) (history ++ entry ∷ [])
+grown_push net up width next_up next_width done history entry limits g may after = record {
+  ups = after.ups ∙ g.ups;
+  widths = after.widths ∙ g.widths;
+  marks = length-set done entry.router true ∙ g.marks;
+  up_is = λ i low. after.up_is i (omega (arith, after.ups, g.ups))
+      ∙ up_after-same (root_of net) (slice_index up) (tables (root_of net) history).up entry.router entry.neighbour
+      (set_of entry.side) i (g.up_is i low) (g.up_is entry.neighbour neighbour_in)
+      ∙ ap (λ (T : Tables). T.up i) (sym (tables-push (root_of net) history entry));
+  width_is = λ i low. after.width_is i (omega (arith, after.widths, g.widths))
+      ∙ width_after-same (root_of net) (slice_index up) (tables (root_of net) history).up (slice_index width)
+      (tables (root_of net) history).width entry.router entry.neighbour entry.value (set_of entry.side) i
+      (g.up_is entry.neighbour neighbour_in) (g.width_is i low) (g.width_is entry.neighbour neighbour_in)
+      ∙ ap (λ (T : Tables). T.width i) (sym (tables-push (root_of net) history entry));
+  done_is = λ i low. done_push done history entry net.routers i g.marks low (g.done_is i low) (cases_eq i entry.router);
+  legal = legal_push net history entry g.legal may;
+}
+  where
+    neighbour_in : entry.neighbour < net.routers
+    neighbour_in = rw may.neighbour ((bounded net (root-lt net limits) history g.legal).ups entry.router)
