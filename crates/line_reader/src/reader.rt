@@ -51,7 +51,8 @@ impl Model for LineReader {
 
     ghost view = { λ r. record { bytes = take (r.to - r.from) (drop r.from r.buffer.items); taken = r.taken } };
 
-    ghost invariant = { λ r. (r.from ≤ r.to) × (r.to ≤ vec_len r.buffer) × (r.taken ≤ 2 ^ 30) × (0 < vec_len r.buffer) };
+    ghost invariant = { λ r. (r.from ≤ r.to) × (r.to ≤ vec_len r.buffer) × (r.taken ≤ 2 ^ 30)
+        × (0 < vec_len r.buffer) };
 }
 
 impl LineReader {
@@ -134,7 +135,8 @@ impl LineReader {
     /// # Errors
     /// [`Failed`] where a read failed. The part of a line that was passed before is lost to later calls.
     pub fn next_line<S: Source>(&mut self, source: &mut S, line: &mut Line) -> Result<Next, Failed>
-        ensures reads { Reads self.old (S.left source.old) self.new (S.left source.new) (S.ended source.new) line.new result }
+        ensures reads { Reads self.old (S.left source.old) self.new (S.left source.new) (S.ended source.new) line.new
+            result }
         ensures open { IsOpen self.old (S.ended source.old)
             → (result ≡ Ok Next.Whole) ⊎ (result ≡ Ok Next.TooMuch)
             → IsOpen self.new (S.ended source.new) }

@@ -26,7 +26,8 @@ placed keys new name place e at =
 
 -- A capacity that is too large may be told as any that is.
 with_link-too_large : (draft : Draft) (first second : List ℕ) (cap other : ℕ)
-    → 1000000000000 < cap → 1000000000000 < other → with_link draft first second cap ≡ with_link draft first second other
+    → 1000000000000 < cap → 1000000000000 < other
+    → with_link draft first second cap ≡ with_link draft first second other
 with_link-too_large draft first second cap other large also =
     let cap_test : nat_lt 1000000000000 cap ≡ true = lt-ltb _ _ large in
     let other_test : nat_lt 1000000000000 other ≡ true = lt-ltb _ _ also in
@@ -44,6 +45,7 @@ with_link-capped draft first second cap =
           ap (λ n. with_link draft first second n) same
     ]
 
+-- The same of the number that may stand in its place.
 with_capacity-capped : (draft : Draft) (first second : List ℕ) (number : Option ℕ) (cap : ℕ)
     → Some cap ≡ option_map (min (2 ^ 64 - 1)) number
     → with_capacity draft first second number ≡ with_link draft first second cap

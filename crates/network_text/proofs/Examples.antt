@@ -1,13 +1,12 @@
 -- The definitions on small texts, by computing.
-use Rattle.std.proofs.Common.{◌≡◌, ℕ, List, [], ◌∷◌, true, false, Some, None, Result, Ok, Err, refl, codes, replicate}
-use Rattle.cut_model.specs.declared.network.Link.{Link}
+use Rattle.std.proofs.Common.{◌≡◌, ℕ, [], ◌∷◌, ◌++◌, true, false, Some, None, Result, Ok, Err, refl, codes, replicate}
 use Rattle.network_text.specs.Sheets.{SheetView, number_of}
-use Rattle.network_text.specs.Texts.{Draft, link_line, router_line, with_line, with_link_among, verdict_of}
+use Rattle.network_text.specs.Texts.{Draft, link_line, router_line, with_line, verdict_of}
 use Rattle.network_text.specs.declared.fault.TextFault.{TextFault}
 use Rattle.network_text.specs.declared.fault.TextKind.{TextKind}
 use Rattle.network_text.specs.declared.fault.TextKind.TheVariants.{UnknownWord, BadName, WrongCount, LineTooLong}
 use Rattle.network_text.specs.declared.fault.TextKind.TheVariants.{BadNumber, CapTooLarge, TooManyRouters}
-use Rattle.network_text.specs.declared.fault.TextKind.TheVariants.{TooManyLinks, NoTerminal, EndedEarly, Memory}
+use Rattle.network_text.specs.declared.fault.TextKind.TheVariants.{TooManyLinks, NoTerminal, EndedEarly}
 
 -- The verdict that a text has this fault in this line.
 abbrev fault_in : ℕ → TextKind → Result SheetView TextFault
@@ -15,7 +14,10 @@ fault_in line kind = Err record { kind = kind; line = line }
 
 -- This many names and links, among which no name but `a` is.
 abbrev draft_with : ℕ → ℕ → Draft
-draft_with names links = record { names = replicate names (codes "a"); links = replicate links record { a = 0; b = 0; cap = 0 } }
+draft_with names links = record {
+  names = replicate names (codes "a");
+  links = replicate links record { a = 0; b = 0; cap = 0 };
+}
 
 -- Names are numbered in order of appearance, a remark and an empty line are passed over, and links
 -- between the same routers or of a router with itself stay.
@@ -47,10 +49,11 @@ router_before_link : verdict_of (codes "router b" ∷ codes "link\ta  b 7" ∷ [
     }
 router_before_link = refl
 
--- A line of another word is unknown, and so is a word in other letters.
+-- A line of another word is unknown.
 unknown_word : verdict_of (codes "transit a" ∷ []) true ≡ fault_in 1 UnknownWord
 unknown_word = refl
 
+-- Letters of the other case make another word.
 unknown_letters : verdict_of (codes "router a" ∷ codes "LINK a b 2" ∷ []) true ≡ fault_in 2 UnknownWord
 unknown_letters = refl
 
@@ -62,13 +65,14 @@ bad_name = refl
 bad_second_name : verdict_of (codes "link a b/ 2" ∷ []) true ≡ fault_in 1 BadName
 bad_second_name = refl
 
--- A `router` line has one name, a `link` line two names and a number.
+-- A `router` line has one name and no word more.
 missing_name : verdict_of (codes "router" ∷ []) true ≡ fault_in 1 WrongCount
 missing_name = refl
 
 further_name : verdict_of (codes "router a b" ∷ []) true ≡ fault_in 1 WrongCount
 further_name = refl
 
+-- A `link` line has two names, a number and no word more.
 missing_number : verdict_of (codes "link a b" ∷ []) true ≡ fault_in 1 WrongCount
 missing_number = refl
 
@@ -82,6 +86,17 @@ end_and_more = refl
 -- A number has digits alone.
 bad_number : verdict_of (codes "link a b +2" ∷ []) true ≡ fault_in 1 BadNumber
 bad_number = refl
+
+-- Zeros may lead a number, and it may have any count of digits.
+leading_zeros : verdict_of ((codes "link a a " ++ replicate 400 48 ++ codes "7") ∷ []) true
+    ≡ Ok record {
+      names = codes "a" ∷ [];
+      net = record { routers = 1; links = record { a = 0; b = 0; cap = 7 } ∷ [] };
+    }
+leading_zeros = refl
+
+many_digits : verdict_of ((codes "link a a " ++ replicate 400 57) ∷ []) true ≡ fault_in 1 CapTooLarge
+many_digits = refl
 
 -- Capacities go up to 10^12.
 largest_capacity : verdict_of (codes "link a a 1000000000000" ∷ []) true
@@ -101,6 +116,10 @@ longest_remark = refl
 
 too_long_remark : verdict_of (replicate 513 35 ∷ codes "router a" ∷ []) true ≡ fault_in 1 LineTooLong
 too_long_remark = refl
+
+-- The word END in a line that is too long is no END.
+too_long_end : verdict_of ((codes "END" ++ replicate 510 32) ∷ []) false ≡ fault_in 1 LineTooLong
+too_long_end = refl
 
 -- There are up to 1,024 routers; among so many a name that is there may still stand in lines.
 known_router : router_line (draft_with 1024 0) (codes "a" ∷ []) ≡ Ok (draft_with 1024 0)

@@ -11,7 +11,7 @@ use Rattle.network_text.specs.Sheets.{number_of}
 use Rattle.network_text.specs.contracts.name.NamePartialEq.TheImpl.{eq-value}
 use Rattle.network_text.proofs.SameNames.{eq-bytes_eq}
 
--- where no element passes there is no place
+-- Where no element passes there is no place.
 pub position-none : (p : List ℕ → Bool) (xs : List (List ℕ)) → All (λ x. p x ≡ false) xs → position p xs ≡ None
 position-none p xs none =
     let all : position_or_len p xs ≡ length xs =
@@ -19,7 +19,7 @@ position-none p xs none =
     (λ k below. none k [] below) (λ past. absurd (omega arith)) in
     rw (all, le-ltb (length xs) (length xs) (omega arith)) refl
 
--- what is no name is the name of no router
+-- What is no name is the name of no router.
 pub number_of-no_name : (names : List (List ℕ)) (name : List ℕ) → All (λ n. IsTrue (is_name n)) names
     → IsFalse (is_name name) → number_of names name ≡ None
 number_of-no_name names name named no_name =
@@ -30,7 +30,7 @@ number_of-no_name names name named no_name =
       | inr differs ↦ differs
     ])
 
--- a look-up among the names gives the number
+-- A look-up among the names gives the number.
 pub number_of-found : (keys names : List (List ℕ)) (key name : List ℕ) (found : Option ℕ)
     → found ≡ position ((eq-value).it key) keys → key ≡ name → keys ≡ names → found ≡ number_of names name
 number_of-found keys names key name found e k n =

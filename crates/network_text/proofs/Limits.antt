@@ -1,19 +1,17 @@
 -- What the lines of a text name stays within the limits of a network.
-use Rattle.std.proofs.Common.{◌≡◌, ℕ, ◌<◌, ◌≤◌, List, [], ◌∷◌, ◌++◌, true, false, OnOk}
+use Rattle.std.proofs.Common.{◌≡◌, ℕ, ◌<◌, ◌≤◌, List, [], ◌∷◌, ◌++◌, true, OnOk}
 use Rattle.std.proofs.Common.{Option, Some, None, Result, Ok, Err, IsTrue, length, nat_lt, nat_le, codes, subst}
 use Rattle.std.proofs.Common.{inl, inr, arith, length-append}
 use Rattle.std.specs.List.{All, list_any}
 use Rattle.std.specs.Str.{bytes_eq}
 use Rattle.std.proofs.lemmas.Bool.{cases_Bool, ltb-false, leb-false}
 use Rattle.std.proofs.lemmas.List.Elements.{All-append, All-nil, All-cons}
-use Rattle.text_forms.specs.Lines.{is_long}
 use Rattle.text_forms.specs.Names.{is_name}
 use Rattle.text_forms.specs.Numbers.{number_in}
-use Rattle.text_forms.specs.Words.{is_passed, line_words}
 use Rattle.cut_model.specs.declared.network.Link.{Link}
 use Rattle.cut_model.specs.Net.{IsLink}
 use Rattle.network_text.specs.Texts.{Draft, with_name, with_ends, link_between, with_link}
-use Rattle.network_text.specs.Texts.{with_capacity, with_names, router_line, link_line, with_words, with_line}
+use Rattle.network_text.specs.Texts.{with_capacity, with_names, router_line, link_line, with_words}
 use Rattle.network_text.specs.Readings.{Adds, IsWithinLimits}
 use Rattle.network_text.specs.declared.fault.TextKind.{TextKind}
 use Rattle.network_text.proofs.Places.{length-with_name, first-below, second-below}
@@ -42,6 +40,7 @@ named-with_name names name named is =
 IsLink-more : (few many : ℕ) (link : Link) → few ≤ many → IsLink few link → IsLink many link
 IsLink-more few many link more is = record { a = omega (arith, is.a); b = omega (arith, is.b); cap = is.cap }
 
+-- So do all links.
 links-more : (few many : ℕ) (links : List Link) → few ≤ many → All (IsLink few) links → All (IsLink many) links
 links-more few many links more are = λ k d below. IsLink-more few many _ more (are k d below)
 
@@ -77,7 +76,8 @@ link-small draft first second cap is_first is_second fits few room small =
     let ends : List (List ℕ) = with_ends draft.names first second in
     let link : Link = link_between ends first second cap in
     let old : All (IsLink (length ends)) draft.links =
-    links-more (length draft.names) (length ends) draft.links (length-with_ends draft.names first second) small.within in
+    links-more (length draft.names) (length ends) draft.links (length-with_ends draft.names first second)
+    small.within in
     let new : IsLink (length ends) link =
     record { a = first-below draft.names first second; b = second-below draft.names first second; cap = fits } in
     record {
@@ -89,6 +89,7 @@ link-small draft first second cap is_first is_second fits few room small =
           (All-cons (IsLink (length ends)) link [] new (All-nil (IsLink (length ends))));
     }
 
+-- A link that is added was within the limits.
 with_link-small : (old new : Draft) (first second : List ℕ) (cap : ℕ) → is_name first ≡ true → is_name second ≡ true
     → with_link old first second cap ≡ Ok new → IsSmall old → IsSmall new
 with_link-small old new first second cap is_first is_second h small =
@@ -110,6 +111,7 @@ with_link-small old new first second cap is_first is_second h small =
       ]
     ]
 
+-- The same with the number that may stand in its place.
 with_capacity-small : (old new : Draft) (first second : List ℕ) (cap : Option ℕ)
     → is_name first ≡ true → is_name second ≡ true → with_capacity old first second cap ≡ Ok new
     → IsSmall old → IsSmall new

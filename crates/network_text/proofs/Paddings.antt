@@ -5,7 +5,7 @@ use Rattle.std.proofs.lemmas.List.{drop-replicate, drop_at}
 use Rattle.std.proofs.Math.ListN.{length-replicate}
 use Rattle.network_text.specs.Padding.{IsPadded}
 
--- they are padded
+-- They are padded.
 pub IsPadded-written : (bytes : List ℕ) → length bytes ≤ 32
     → IsPadded (length bytes) (bytes ++ drop (length bytes) (replicate 32 0))
 IsPadded-written bytes short =

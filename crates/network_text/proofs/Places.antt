@@ -10,7 +10,7 @@ use Rattle.std.proofs.lemmas.List.Sums.{prefix_len-le-length}
 use Rattle.std.proofs.lemmas.Slice.Eq.{bytes_eq-Decides}
 use Rattle.network_text.specs.Texts.{with_name, with_ends, place_of}
 
--- where some element passes, the first that does has a place
+-- Where some element passes, the first that does has a place.
 place-below : (p : List ℕ → Bool) (xs : List (List ℕ)) → list_any p xs ≡ true → position_or_len p xs < length xs
 place-below p [] any = absurd (cc)
 place-below p (x ∷ xs) any =
@@ -19,11 +19,11 @@ place-below p (x ∷ xs) any =
       | inr e ↦ let below = place-below p xs (rw e at any) in rw e (omega arith)
     ]
 
--- a name is the name of its own
+-- A name is the same as itself.
 own : (name : List ℕ) → bytes_eq name name ≡ true
 own name = (bytes_eq-Decides name name).1 refl
 
--- names only grow
+-- Adding a name never takes one away.
 pub length-with_name : (names : List (List ℕ)) (name : List ℕ) → length names ≤ length (with_name names name)
 length-with_name names name =
     elim (cases_Bool (list_any (bytes_eq name) names)) [
@@ -31,7 +31,7 @@ length-with_name names name =
       | inr e ↦ rw e (omega (arith, length-append names (name ∷ [])))
     ]
 
--- adding a name doesn't change its place
+-- Adding a name doesn't change its own place,
 pub place_of-own : (names : List (List ℕ)) (name : List ℕ) → place_of (with_name names name) name ≡ place_of names name
 place_of-own names name =
     elim (cases_Bool (list_any (bytes_eq name) names)) [
@@ -43,7 +43,7 @@ place_of-own names name =
           ])
     ]
 
--- nor does another name
+-- nor that of another name which is there.
 pub place_of-kept : (names : List (List ℕ)) (name other : List ℕ) → place_of names name < length names
     → place_of (with_name names other) name ≡ place_of names name
 place_of-kept names name other below =
@@ -54,7 +54,7 @@ place_of-kept names name other below =
           rw (e, position_or_len_push (bytes_eq name) names other, within) refl
     ]
 
--- a name that was added has a place
+-- A name that was added has a place.
 pub place_of-below : (names : List (List ℕ)) (name : List ℕ)
     → place_of (with_name names name) name < length (with_name names name)
 place_of-below names name =
@@ -66,7 +66,7 @@ place_of-below names name =
           rw e (let last = rw e at place in omega (arith, last, most, length-append names (name ∷ [])))
     ]
 
--- both ends of a link have places
+-- The first name of a link has a place among the names after it,
 pub first-below : (names : List (List ℕ)) (first second : List ℕ)
     → place_of (with_ends names first second) first < length (with_ends names first second)
 first-below names first second =
@@ -74,6 +74,7 @@ first-below names first second =
     let kept = place_of-kept (with_name names first) first second below in
     let grown = length-with_name (with_name names first) second in omega (arith, below, kept, grown)
 
+-- and so has the second.
 pub second-below : (names : List (List ℕ)) (first second : List ℕ)
     → place_of (with_ends names first second) second < length (with_ends names first second)
 second-below names first second = place_of-below (with_name names first) second

@@ -15,8 +15,8 @@ ghost use Rattle.query_lang.specs.Requests.{IsOf};
 use crate::Record;
 use crate::intake::{Intake, Taken};
 use cut_model::{Network, NoMemory, Side};
+use dinic_flow::FlowDesk;
 use network_text::{Fed, Reader, Sheet, TextFault, TextKind};
-use path_flow::PathDesk;
 use query_lang::{
     ReplyBuffer, Request, bye_reply, cut_reply, loaded_reply, net_reply, parse_request,
     refusal_reply,
@@ -47,11 +47,10 @@ pub struct Session {
     pub records: Vec<Arc<Record>>,
     pub intake: Intake,
     pub reply: ReplyBuffer,
-    desk: PathDesk,
+    desk: FlowDesk,
     ghost few: { vec_len records ≤ 256 },
     ghost room: { 256 ≤ vec_capacity records },
-    ghost routers_room: { desk.routers ≡ 1024 },
-    ghost links_room: { desk.links ≡ 8192 },
+    ghost desk_room: { desk.room ≡ record { routers = 1024; links = 8192 } },
     ghost unended: { is_stale intake ≡ false },
 }
 
@@ -87,9 +86,9 @@ fn begin_text(alloc: Global) -> Intake
     }
 }
 
-/// Makes the reply to a CUT of two routers of a record, by a flow of its own.
+/// Makes the reply to a CUT of two routers of a record, by a flow of its own. The side is the least one.
 fn answer_cut(
-    desk: &mut PathDesk,
+    desk: &mut FlowDesk,
     reply: &mut ReplyBuffer,
     version: u32,
     published: &Record,
@@ -99,10 +98,9 @@ fn answer_cut(
     requires differ { a ≢ b }
     requires a { a < published.now.net.routers }
     requires b { b < published.now.net.routers }
-    requires routers { desk.old.routers ≡ 1024 }
-    requires links { desk.old.links ≡ 8192 }
+    requires room { desk.old.room ≡ record { routers = 1024; links = 8192 } }
     ensures reply { IsCutReply published.now version a b reply.new }
-    ensures desk { desk.new ≡ desk.old }
+    ensures room { desk.new.room ≡ desk.old.room }
 {
     let sheet = published.sheet();
     let net: &Network = sheet.net();
@@ -126,7 +124,7 @@ impl Session {
             records: Vec::with_capacity(alloc, MOST_RECORDS)?,
             intake: Intake::Between,
             reply: ReplyBuffer::make(alloc)?,
-            desk: PathDesk::with_room(alloc, MOST_ROUTERS, MOST_LINKS)?,
+            desk: FlowDesk::with_room(alloc, MOST_ROUTERS, MOST_LINKS)?,
         })
     }
 

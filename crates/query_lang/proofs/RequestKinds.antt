@@ -23,7 +23,7 @@ IsKind (Ok Load) passed load bye = (passed ≡ false) × (load ≡ true)
 IsKind (Ok Bye) passed load bye = (passed ≡ false) × (load ≡ false) × (bye ≡ true)
 IsKind answer passed load bye = (passed ≡ false) × (load ≡ false) × (bye ≡ false)
 
--- A request of a record, or a fault.
+-- A request that is answered from a record, or a fault.
 abbrev pub IsOther : Result Request RequestFault → Type 0
 IsOther (Ok Nothing) = ⊥
 IsOther (Ok Load) = ⊥
@@ -40,7 +40,7 @@ kind_of_other (Ok (Cut a b)) load bye other no_load no_bye = (refl, no_load, no_
 kind_of_other (Ok Net) load bye other no_load no_bye = (refl, no_load, no_bye)
 kind_of_other (Err fault) load bye other no_load no_bye = (refl, no_load, no_bye)
 
--- Two routers give a cut or a fault,
+-- Two routers, known or not, give a cut or a fault.
 other_between : (first second : Option ℕ) → IsOther (cut_between first second)
 other_between None second = tt
 other_between (Some a) None = tt
@@ -50,12 +50,12 @@ other_between (Some a) (Some b) = chosen (a == b)
     chosen true = tt
     chosen false = tt
 
--- two names do,
+-- Two names give a cut or a fault.
 other_named : (sheet : Option SheetView) (first second : List ℕ) → IsOther (cut_named sheet first second)
 other_named None first second = tt
 other_named (Some sheet) first second = other_between (number_of sheet.names first) (number_of sheet.names second)
 
--- and so does whatever stands behind `CUT`.
+-- Whatever stands behind `CUT` gives a cut or a fault.
 other_cut : (sheet : Option SheetView) (words : List (List ℕ)) → IsOther (cut_of sheet words)
 other_cut sheet [] = tt
 other_cut sheet (first ∷ []) = tt
@@ -149,26 +149,26 @@ request_kind sheet line = chosen (is_long line)
     chosen true = (refl, refl, refl)
     chosen false = kind_of_words sheet (line_words line)
 
--- For a line that is passed over no other answer is right.
+-- For a line that is passed over only `Nothing` is right.
 only_nothing : (answer : Result Request RequestFault) (load bye : Bool) → IsKind answer true load bye
     → answer ≡ Ok Nothing
 only_nothing (Ok Nothing) load bye kind = refl
 only_nothing answer load bye kind = absurd (true≢false kind.0)
 
--- The same for one that begins a text,
+-- For a line that begins a text only that answer is right.
 only_load : (answer : Result Request RequestFault) (bye : Bool) → IsKind answer false true bye → answer ≡ Ok Load
 only_load (Ok Nothing) bye kind = absurd (false≢true kind)
 only_load (Ok Load) bye kind = refl
 only_load answer bye kind = absurd (true≢false kind.1)
 
--- for one that ends the session,
+-- For a line that ends the session only that answer is right.
 only_bye : (answer : Result Request RequestFault) → IsKind answer false false true → answer ≡ Ok Bye
 only_bye (Ok Nothing) kind = absurd (false≢true kind)
 only_bye (Ok Load) kind = absurd (false≢true kind.1)
 only_bye (Ok Bye) kind = refl
 only_bye answer kind = absurd (true≢false kind.2)
 
--- and for one that is none of these.
+-- For a line that is none of these only an answer for a record or a fault is right.
 only_other : (answer : Result Request RequestFault) → IsKind answer false false false → IsOther answer
 only_other (Ok Nothing) kind = absurd (false≢true kind)
 only_other (Ok Load) kind = absurd (false≢true kind.1)
@@ -208,7 +208,7 @@ asks_bye sheet line =
       λ bye. only_bye (request_of sheet line) (rw (bye.0, bye.1, bye.2) at kind),
     )
 
--- Exactly the other lines ask for something of a record, or have a fault.
+-- Exactly the other lines ask for something of a record or have a fault.
 pub asks_other : (sheet : Option SheetView) (line : List ℕ)
     → IsOther (request_of sheet line) ↔ ((is_passed line ≡ false) × (is_load line ≡ false) × (is_bye line ≡ false))
 asks_other sheet line =

@@ -39,7 +39,8 @@ cut_itself (Some a) some = rw (eq-eqb a a refl) refl
 
 -- Two names are refused as the same router exactly where they are equal, and a router has them.
 pub same_router : (sheet : SheetView) (first second : List ℕ)
-    → (cut_named (Some sheet) first second ≡ Err SameRouter) ↔ (IsSome (number_of sheet.names first) × (first ≡ second))
+    → (cut_named (Some sheet) first second ≡ Err SameRouter)
+    ↔ (IsSome (number_of sheet.names first) × (first ≡ second))
 same_router sheet first second =
     let names = sheet.names in (
       λ refused. same_name names first second (number_of names first) (number_of names second) refl refl refused,

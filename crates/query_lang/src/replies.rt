@@ -1,5 +1,5 @@
-//! Replies, written to a sink. Each begins with the version of the network that it speaks of, 0 where
-//! there is none, and ends with a line feed. No call takes memory.
+//! Replies, written to a sink. Each begins with the version of the network that it speaks of, 0
+//! where there is none, and ends with a line feed. No call takes memory.
 ghost use Rattle.std.specs.Prelude.{◌≡◌, ℕ, ◌<◌, List, [], Bool, length, slice_index_or, false};
 ghost use Rattle.query_lang.specs.Replies.{bye_text, cut_head, cut_text, loaded_text, name_piece};
 ghost use Rattle.query_lang.specs.Replies.{head_text, line_piece, net_text, refusal_head, refused_text};
@@ -102,8 +102,8 @@ fn write_line_number<K: Sink>(line: Option<u32>, sink: &mut K) -> Result<(), Fai
     put_pieces(&[b" line ", digits.format(line).as_bytes()], sink)
 }
 
-/// Writes the first line of a reply of several lines: the word that says what it tells, and how many
-/// lines follow.
+/// Writes the first line of a reply of several lines: the word that says what it tells, and how
+/// many lines follow.
 ///
 /// # Errors
 /// [`Failed`] where a put failed. A front of the line was written then.

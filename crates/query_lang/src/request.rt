@@ -67,10 +67,12 @@ impl RequestFault {
 }
 
 /// What the line asks for, by the names of the sheet. A line is given without its line feed; of one
-/// of more than 512 bytes the first 513 suffice. It takes no memory, and goes over the line a few times.
+/// of more than 512 bytes the first 513 suffice. It takes no memory, and goes over the line a few
+/// times.
 ///
 /// # Errors
-/// The first fault that applies. `NoNetwork` where there is no sheet, for each request but LOAD and BYE.
+/// The first fault that applies. `NoNetwork` where there is no sheet, for each request but LOAD and
+/// BYE.
 pub fn parse_request(line: &[u8], sheet: Option<&Sheet>) -> Result<Request, RequestFault>
     ensures value { result ≡ request_of (option_copied sheet.entry) line.now }
     ensures of { IfOk result (IsOf (option_copied sheet.entry)) }

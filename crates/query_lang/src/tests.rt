@@ -32,7 +32,10 @@ fn requests_and_replies_of_a_network(rt: HostRuntime) -> Result<(), Fail> {
     assert_eq!(rt; reader.line(b"link b c 7"), Fed::More);
     assert_eq!(rt; reader.line(b"END"), Fed::Ended);
     let sheet = reader.close()?;
-    assert_eq!(rt; parse_request(b"CUT a c", Some(&sheet)), Ok(Request::Cut(0, 2)));
+    assert_eq!(rt;
+        parse_request(b"CUT a c", Some(&sheet)),
+        Ok(Request::Cut(0, 2))
+    );
     assert_eq!(rt; parse_request(b"NET", Some(&sheet)), Ok(Request::Net));
     assert_eq!(rt; sheet.net().routers(), 3);
     let mut side = Side::empty(3);
@@ -80,8 +83,13 @@ fn replies_of_a_network_put_into_a_sink(rt: HostRuntime) -> Result<(), Fail> {
 
 #[test]
 fn faults_in_words(rt: HostRuntime) -> Result<(), Fail> {
-    let fault = parse_request(b"CUT a b", None).err().unwrap_or(RequestFault::UnknownWord);
-    assert_eq!(rt; format!(in rt.alloc(); "{fault}")?.as_str(), "no network yet");
+    let fault = parse_request(b"CUT a b", None)
+        .err()
+        .unwrap_or(RequestFault::UnknownWord);
+    assert_eq!(rt;
+        format!(in rt.alloc(); "{fault}")?.as_str(),
+        "no network yet"
+    );
     assert_eq!(rt; fault.number(), 6);
     Ok(())
 }

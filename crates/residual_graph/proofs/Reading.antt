@@ -144,8 +144,8 @@ pub record IsFlowAt (kept : List Link) (left : List ℕ) (view : ResidualView) (
   pub most : get_or left (2 * i) 0 ≤ 2000000000000
 
 -- they are stored so
-pub flow_at_link : {room_routers room_links routers links : ℕ} {first : List ℕ} {places : List Place} {kept : List Link}
-    {left : List ℕ} {touched : Touches}
+pub flow_at_link : {room_routers room_links routers links : ℕ} {first : List ℕ} {places : List Place}
+    {kept : List Link} {left : List ℕ} {touched : Touches}
     → IsStored room_routers room_links routers links first places kept left touched
     → (view : ResidualView) → view_of room_routers room_links routers (take links kept) left ≡ view
     → (i : ℕ) → i < length view.net.links → IsFlowAt kept left view i
@@ -158,7 +158,8 @@ flow_at_link {room_routers} {room_links} {routers} {links} {first} {places} {kep
     subst (λ (l : Link). l.cap ≤ 1000000000000) same (stored.limits.within i no_link inside).cap in record {
       is = ap (λ (l : Link). pos l.cap -ℤ pos (get_or left (2 * i) 0)) (sym same)
           ∙ sym (get_or-flows_at (take links kept) left i inside)
-          ∙ ap (λ flow. get_or flow i (pos 0)) (flow_is room_routers room_links routers (take links kept) left view is);
+          ∙ ap (λ flow. get_or flow i (pos 0))
+          (flow_is room_routers room_links routers (take links kept) left view is);
       cap = cap;
       most = omega (arith, cap, stored.pairs i inside, ap (λ (l : Link). l.cap) same);
     }

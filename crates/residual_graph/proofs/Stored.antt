@@ -116,7 +116,8 @@ pub undone_view : (room_routers room_links routers : ℕ) (links : List Link) (l
     ≡ record view { flow = replicate (length view.net.links) (pos 0) }
 unfolding view_of
 undone_view room_routers room_links routers links left left' view is caps =
-    ap (λ flow. record (view_of room_routers room_links routers links left) { flow = flow }) (caps_flows links left' caps)
+    ap (λ flow. record (view_of room_routers room_links routers links left) { flow = flow })
+    (caps_flows links left' caps)
     ∙ ap (λ (v : ResidualView). record v { flow = replicate (length v.net.links) (pos 0) }) is
 
 -- a network with the same number of routers is held just where its links are

@@ -79,7 +79,8 @@ left_is room_routers room_links routers links left pairs arc low = elim (there_o
 -- ---- the flow is within the capacities
 
 -- link by link
-within_by : (f : List Link) (g : ℕ → ℤ) (a : ℕ) → ((i : ℕ) → i < length f → nat_abs (g (a + i)) ≤ (get_or f i no_link).cap)
+within_by : (f : List Link) (g : ℕ → ℤ) (a : ℕ)
+    → ((i : ℕ) → i < length f → nat_abs (g (a + i)) ≤ (get_or f i no_link).cap)
     → IsWithinCaps f (map g (range_with_len a (length f)))
 within_by [] g a each = tt
 within_by (link ∷ links) g a each =
@@ -100,13 +101,15 @@ unfolding flows_at
 flows_within links left pairs =
     within_by links (flow_at links left) 0 (λ i low.
     let same : 0 + i ≡ i = omega arith in
-    rw same (abs_within (get_or links i no_link).cap (get_or left (2 * i) 0) (get_or left (2 * i + 1) 0) (pairs i low)))
+    rw same (abs_within (get_or links i no_link).cap (get_or left (2 * i) 0) (get_or left (2 * i + 1) 0)
+    (pairs i low)))
 
 -- ---- the parts of a view
 
 -- its network
 pub net_is : (room_routers room_links routers : ℕ) (links : List Link) (left : List ℕ) (view : ResidualView)
-    → view_of room_routers room_links routers links left ≡ view → record { routers = routers; links = links } ≡ view.net
+    → view_of room_routers room_links routers links left ≡ view
+    → record { routers = routers; links = links } ≡ view.net
 unfolding view_of
 net_is room_routers room_links routers links left view e = ap (λ (v : ResidualView). v.net) e
 

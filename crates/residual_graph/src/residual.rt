@@ -247,7 +247,8 @@ impl Residual {
         requires { at < arc_count self.now.net }
         ensures value { result ≡ place_at self.now.net at }
         ensures nth { (router i : ℕ) → router < self.now.net.routers → i < length (arcs_from self.now.net router) →
-            at ≡ begin_of self.now.net router + i → result ≡ slice_index_or (places_from self.now.net router) i no_place }
+            at ≡ begin_of self.now.net router + i →
+            result ≡ slice_index_or (places_from self.now.net router) i no_place }
         ensures arc { result.arc < arc_count self.now.net }
         ensures head { result.head < self.now.net.routers }
         ensures sound { IsSound self.now }

@@ -1,7 +1,7 @@
 //! Trees that grow commit by commit, with the tables worked by hand.
 use commit_rule::complete;
 use cut_model::{LeastCut, Link, Network, Side};
-use path_flow::PathDesk;
+use dinic_flow::FlowDesk;
 use std::alloc::Global;
 use std::process::Abort;
 use std::sync::Arc;
@@ -105,7 +105,7 @@ fn start(alloc: Global, case: &Case) -> Result<Growing, Fail> {
 /// Commits a least cut of a router from the one above it.
 fn commit(
     rt: &impl Abort,
-    desk: &mut PathDesk,
+    desk: &mut FlowDesk,
     grow: &mut Growing,
     router: u32,
 ) -> Result<(), Fail> {
@@ -122,7 +122,7 @@ fn commit(
 
 /// The finished tree of a case. Before its last commit it isn't complete.
 fn grown(rt: &impl Abort, alloc: Global, case: &Case) -> Result<Finished, Fail> {
-    let mut desk = PathDesk::with_room(alloc, 7, 10)?;
+    let mut desk = FlowDesk::with_room(alloc, 7, 10)?;
     let mut grow = start(alloc, case)?;
     for router in 1..case.routers {
         grow = complete(grow).err().ok_or("complete too early")?;

@@ -39,7 +39,11 @@ added c =
     ∙ kept_is of ((get_or places.result.now i no_place).arc / 2) (omega (arith, at.arc)) in
     let cap = ap (λ (l : Link). l.cap) read in (
       cap ∙ ap (λ a. (get_or net.links (a / 2) no_link).cap) arc,
-      omega (arith, cap, cap_small net of.limits ((get_or places.result.now i no_place).arc / 2) (omega (arith, at.arc))),
+      omega (
+        arith,
+        cap,
+        cap_small net of.limits ((get_or places.result.now i no_place).arc / 2) (omega (arith, at.arc)),
+      ),
       inside,
     )
 

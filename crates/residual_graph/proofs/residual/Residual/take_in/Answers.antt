@@ -34,8 +34,10 @@ index_arcs-requires-clause-first c =
 fresh : (c : goal.After-clear)
     → IsFresh c.self.inside.room_routers c.self.inside.room_links c.routers-self-inside.result
     (length c.links-links.result.now)
-    (take c.self.inside.first.len (c.index_arcs.new.first ++ drop (length c.index_arcs.new.first) c.self.inside.first.items))
-    (take c.self.inside.places.len (c.index_arcs.new.places ++ drop (length c.index_arcs.new.places) c.self.inside.places.items))
+    (take c.self.inside.first.len
+    (c.index_arcs.new.first ++ drop (length c.index_arcs.new.first) c.self.inside.first.items))
+    (take c.self.inside.places.len
+    (c.index_arcs.new.places ++ drop (length c.index_arcs.new.places) c.self.inside.places.items))
     (take c.self.inside.kept.len (c.keep.new.kept ++ drop (length c.keep.new.kept) c.self.inside.kept.items))
     (take c.self.inside.left.len (c.set_left.new.left ++ drop (length c.set_left.new.left) c.self.inside.left.items))
     c.clear.new.self c.args.net.now
@@ -64,11 +66,13 @@ fresh c =
       routers_are = routers;
       routers_fit = omega (arith, room.0, c.requires.routers, routers);
       links_fit = omega (arith, room.1, c.requires.links, ap length links);
-      first_room = ap length same_first ∙ c.index_arcs.auto.first ∙ ap length c.deref_mut-2.ensures.value ∙ stored.first_room;
+      first_room = ap length same_first ∙ c.index_arcs.auto.first ∙ ap length c.deref_mut-2.ensures.value
+          ∙ stored.first_room;
       places_room = ap length same_places ∙ c.index_arcs.auto.places ∙ ap length c.deref_mut-3.ensures.value
           ∙ stored.places_room;
       kept_room = ap length same_kept ∙ c.keep.auto.kept ∙ ap length c.deref_mut.ensures.value ∙ stored.kept_room;
-      left_room = ap length same_left ∙ c.set_left.auto.left ∙ ap length c.deref_mut-4.ensures.value ∙ stored.left_room;
+      left_room = ap length same_left ∙ c.set_left.auto.left ∙ ap length c.deref_mut-4.ensures.value
+          ∙ stored.left_room;
       links_are = ap (take (length c.links-links.result.now)) (same_kept ∙ c.keep.ensures) ∙ front ∙ links;
       limits = c.links-links.ensures.limits;
       indexed = rw (same_first, same_places, ← routers, ← links) c.index_arcs.ensures;

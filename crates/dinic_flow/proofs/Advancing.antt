@@ -1,0 +1,185 @@
+-- A router's cursor that moves on, and what the steps of that cost.
+use Rattle.std.proofs.Common.{◌≡◌, ◌≢◌, ℕ, ◌+◌, ◌-◌, ◌*◌, ◌/◌, ◌%◌, ◌<◌, ◌≤◌, true, false, suc, List, [], ◌∷◌, length, get_or, set, sum}
+use Rattle.std.specs.Prelude.{◌==◌}
+use Rattle.std.proofs.Common.{sym, ◌∙◌, ap, subst, arith, refl, inl, inr}
+use Rattle.std.proofs.lemmas.Bool.{cases_eq, cases_lt, eq-eqb, ne_eqb}
+use Rattle.std.proofs.lemmas.List.{length-set, get_or-set_same, get_or-set_other}
+use Rattle.std.proofs.lemmas.List.Sums.{sum_by-set, sum_by-cons}
+use Rattle.cut_model.specs.declared.network.Link.{Link}
+use Rattle.cut_model.specs.Net.{Net}
+use Rattle.residual_graph.specs.Arcs.{link_of, tail_in, head_in, tail_of, head_of, arc_count, twin}
+use Rattle.residual_graph.specs.Places.{begin_of, place_at}
+use Rattle.residual_graph.specs.View.{ResidualView}
+use Rattle.residual_graph.proofs.ByPlace.{arc-between}
+use Rattle.dinic_flow.specs.Levels.{IsLevelled}
+use Rattle.dinic_flow.specs.Phases.{IsSpent, IsBlocked, HasCome, IsPhase, Sends, Costs}
+
+-- A cursor that is put elsewhere is there, and every other one where it was.
+cursor-moved : (cursor : List ℕ) (router v r : ℕ) → router < length cursor → get_or cursor router 0 ≤ v →
+    (get_or cursor r 0 ≤ get_or (set cursor router v) r 0) × (r ≢ router → get_or (set cursor router v) r 0 ≡ get_or cursor r 0)
+cursor-moved cursor router v r within later = elim (cases_eq r router) [
+  | inl same ↦ (
+    omega (
+      arith,
+      ap (λ (x : ℕ). get_or cursor x 0) same,
+      ap (λ (x : ℕ). get_or (set cursor router v) x 0) same,
+      get_or-set_same cursor router v 0 within,
+    ),
+    λ apart. absurd (apart same),
+  )
+  | inr apart ↦
+      let other = get_or-set_other cursor router r v 0 apart in
+      (omega (arith, other), λ _. other)
+]
+
+-- A router that was spent stays so, if no cursor goes past a router's arcs.
+blocked-moved : (view : ResidualView) (least t : ℕ) (label old new : List ℕ) (arc : ℕ) →
+    (IsSpent view.net old (head_of view.net arc) → IsSpent view.net new (head_of view.net arc)) →
+    IsBlocked view least t label old arc → IsBlocked view least t label new arc
+blocked-moved view least t label old new arc stays was leads = elim (was leads) [
+  | inl closed ↦ inl closed
+  | inr spent ↦ inr (spent.0, stays spent.1)
+]
+
+-- A router's cursor may move over arcs that are blocked.
+pub phase-moved : (view : ResidualView) (least t : ℕ) (label cursor : List ℕ) (router v : ℕ) →
+    IsPhase view least t label cursor → router < view.net.routers → router ≢ t →
+    get_or cursor router 0 ≤ v → v ≤ begin_of view.net (router + 1) →
+    ((at : ℕ) → get_or cursor router 0 ≤ at → at < v → IsBlocked view least t label cursor (place_at view.net at).arc) →
+    IsPhase view least t label (set cursor router v)
+phase-moved view least t label cursor router v old small apart later most passed =
+    let within : router < length cursor = omega (arith, old.come.size) in
+    let same = get_or-set_same cursor router v 0 within in
+    let other : (r : ℕ) → r ≢ router → get_or (set cursor router v) r 0 ≡ get_or cursor r 0 =
+    λ r ne. get_or-set_other cursor router r v 0 ne in
+    let stays : (r : ℕ) → IsSpent view.net cursor r → IsSpent view.net (set cursor router v) r =
+    λ r spent. elim (cases_eq r router) [
+      | inr ne ↦ other r ne ∙ spent
+      | inl is ↦ subst (λ (x : ℕ). IsSpent view.net (set cursor router v) x) (sym is)
+          (omega (arith, same, later, most, subst (λ (x : ℕ). IsSpent view.net cursor x) is spent))
+    ] in
+    record {
+      sound = old.sound;
+      levelled = old.levelled;
+      come = record {
+        size = length-set cursor router v ∙ old.come.size;
+        fresh = other t (λ e. apart (sym e)) ∙ old.come.fresh;
+        above = λ r below. omega (arith, (cursor-moved cursor router v r within later).0, old.come.above r below);
+        below = λ r below. elim (cases_eq r router) [
+          | inr ne ↦ omega (arith, other r ne, old.come.below r below)
+          | inl is ↦ subst (λ (x : ℕ). get_or (set cursor router v) x 0 ≤ begin_of view.net (x + 1)) (sym is)
+              (omega (arith, same, most))
+        ];
+        blocked = λ r at below low high.
+            let arc : ℕ = (place_at view.net at).arc in
+            blocked-moved view least t label cursor (set cursor router v) arc (stays (head_of view.net arc))
+            (elim (cases_lt at (get_or cursor r 0)) [
+              | inl before ↦ old.come.blocked r at below low before
+              | inr behind ↦ elim (cases_eq r router) [
+                | inr ne ↦ absurd (omega (arith, other r ne, high, behind))
+                | inl is ↦
+                    let from : get_or cursor router 0 ≤ at = subst (λ (x : ℕ). get_or cursor x 0 ≤ at) is behind in
+                    let to : at < get_or (set cursor router v) router 0 =
+                    subst (λ (x : ℕ). at < get_or (set cursor router v) x 0) is high in
+                    passed at from (omega (arith, to, same))
+              ]
+            ]);
+      };
+    }
+
+-- A router that moves its own cursor on has sent what it had sent.
+pub sends-moved : (before after : ResidualView) (old mid label : List ℕ) (router t x v : ℕ) →
+    Sends before after old mid label router t x → router < length mid → get_or mid router 0 ≤ v →
+    Sends before after old (set mid router v) label router t x
+sends-moved before after old mid label router t x v sent within later = record {
+  same = sent.same;
+  sends = sent.sends;
+  falls = sent.falls;
+  spares = sent.spares;
+  moves = λ r. omega (arith, sent.moves r, (cursor-moved mid router v r within later).0);
+  keeps = λ r low apart. (cursor-moved mid router v r within later).1 apart ∙ sent.keeps r low apart;
+}
+
+-- ---- what it costs
+
+-- A cursor that is put elsewhere changes the sum of all cursors by as much.
+pub sum-moved : (cursor : List ℕ) (router v from : ℕ) → router < length cursor → get_or cursor router 0 ≡ from →
+    sum (set cursor router v) + from ≡ sum cursor + v
+sum-moved cursor router v from within is =
+    ap (λ n. sum (set cursor router v) + n) (sym is) ∙ sum_by-set (λ x. x) cursor router v 0 within
+
+-- The steps at one place more, with k levels above: two of its own, and those of the router that it leads to.
+pub pays-place : (k old mid new from at before between after : ℕ) →
+    between + 2 * (k * old) + 2 * (k * from) + 2 * from ≤ before + 2 * (k * mid) + 2 * (k * at) + 2 * at →
+    after + 2 * (k * mid) ≤ (between + 2) + 2 * (k * new) + 2 * k →
+    after + 2 * (k * old) + 2 * (k * from) + 2 * from ≤ before + 2 * (k * new) + 2 * (k * (at + 1)) + 2 * (at + 1)
+pays-place k old mid new from at before between after paid more = omega arith
+
+-- The steps of all places that were passed, where the router's cursor is put behind them.
+pub pays-passed : (k old mid new from at before after : ℕ) → new + from ≡ mid + at →
+    after + 2 * (k * old) + 2 * (k * from) + 2 * from ≤ before + 2 * (k * mid) + 2 * (k * at) + 2 * at →
+    old ≤ mid →
+    after + 2 * ((k + 1) * old) ≤ before + 2 * ((k + 1) * new) + 2 * (k + 1)
+pays-passed k old mid new from at before after moved paid grows = omega (arith, ap (λ x. k * x) moved)
+
+-- The same, where the last place wasn't passed.
+pub pays-last : (k old mid new from at before after : ℕ) → new + from ≡ mid + at →
+    after + 2 * (k * old) + 2 * (k * from) + 2 * from ≤ before + 2 * (k * mid) + 2 * (k * (at + 1)) + 2 * (at + 1) →
+    old ≤ mid →
+    after + 2 * ((k + 1) * old) ≤ before + 2 * ((k + 1) * new) + 2 * (k + 1)
+pays-last k old mid new from at before after moved paid grows = omega (arith, ap (λ x. k * x) moved)
+
+-- ---- t is never spent
+
+-- The twin of an arc leaves the arc's head.
+twin-ends : (net : Net) (arc : ℕ) → (tail_of net (twin arc) ≡ head_of net arc) × (twin arc / 2 ≡ arc / 2)
+unfolding twin tail_in head_in
+twin-ends net arc = elim (cases_eq (arc % 2) 0) [
+  | inl even ↦
+      let odd : ((arc + 1) % 2 == 0) ≡ false = ne_eqb ((arc + 1) % 2) 0 (λ z. omega arith) in
+      let half : (arc + 1) / 2 ≡ arc / 2 = omega arith in
+      rw (even, odd, half) (refl, refl)
+  | inr ne ↦
+      let is_odd : (arc % 2 == 0) ≡ false = ne_eqb (arc % 2) 0 ne in
+      let even : ((arc - 1) % 2 == 0) ≡ true = eq-eqb ((arc - 1) % 2) 0 (omega arith) in
+      let half : (arc - 1) / 2 ≡ arc / 2 = omega arith in
+      rw (is_odd, even, half) (refl, refl)
+]
+
+-- It is one of the network's arcs.
+twin-within : (net : Net) (arc : ℕ) → arc < arc_count net → twin arc < arc_count net
+twin-within net arc within = omega (arith, (twin-ends net arc).1)
+
+-- A spent router that an arc goes to isn't t, whose cursor is at its first place.
+pub unspent : (view : ResidualView) (least t : ℕ) (label cursor : List ℕ) (arc : ℕ) → IsPhase view least t label cursor →
+    arc < arc_count view.net → IsSpent view.net cursor (head_of view.net arc) → head_of view.net arc ≢ t
+unspent view least t label cursor arc phase within spent is =
+    let net : Net = view.net in
+    let other : ℕ = twin arc in
+    let back = twin-ends net arc in
+    let inside : other < arc_count net = twin-within net arc within in
+    let (at, low, high, _) = arc-between net phase.sound.limits other inside in
+    let tail : tail_of net other ≡ t = back.0 ∙ is in
+    let from : begin_of net t ≤ at = subst (λ (r : ℕ). begin_of net r ≤ at) tail low in
+    let to : at < begin_of net (t + 1) = subst (λ (r : ℕ). at < begin_of net (r + 1)) tail high in
+    let end : get_or cursor t 0 ≡ begin_of net (t + 1) = subst (λ (r : ℕ). IsSpent net cursor r) is spent in
+    omega (arith, phase.come.fresh)
+
+-- Each router but t is below t.
+pub below-top : (view : ResidualView) (least t : ℕ) (label : List ℕ) (r : ℕ) → IsLevelled view least t label → r ≢ t →
+    get_or label r 0 < get_or label t 0
+below-top view least t label r levelled apart = elim (cases_lt (get_or label r 0) (get_or label t 0)) [
+  | inl less ↦ less
+  | inr high ↦ absurd (apart (levelled.only r (omega (arith, levelled.most r))))
+]
+
+-- Cursors that moved on have a larger sum.
+pub sums-grow : (old new : List ℕ) (n : ℕ) → length old ≡ n → length new ≡ n →
+    ((r : ℕ) → get_or old r 0 ≤ get_or new r 0) → sum old ≤ sum new
+sums-grow [] [] n long as_long moves = omega arith
+sums-grow [] (y ∷ ys) n long as_long moves = absurd (omega arith)
+sums-grow (x ∷ xs) [] n long as_long moves = absurd (omega arith)
+sums-grow (x ∷ xs) (y ∷ ys) n long as_long moves =
+    let first : x ≤ y = moves 0 in
+    let rest : sum xs ≤ sum ys = sums-grow xs ys (n - 1) (omega arith) (omega arith) (λ r. moves (suc r)) in
+    omega (arith, sum_by-cons (λ x. x) x xs, sum_by-cons (λ x. x) y ys)

@@ -1,0 +1,54 @@
+-- Flows: how large they may be, and where they begin.
+use Rattle.std.proofs.Common.{◌≡◌, ◌≢◌, ℕ, ◌*◌, ◌<◌, ◌≤◌, Bool, true, false, cond, List, [], ◌∷◌}
+use Rattle.std.proofs.Common.{length, replicate, sym, ◌∙◌, ap, arith, refl, inl, inr}
+use Rattle.std.specs.Prelude.{ℤ, pos, ◌==◌, ◌+ℤ◌, ◌-ℤ◌}
+use Rattle.std.proofs.lemmas.Bool.{cases_Bool, eq-eqb, ne_eqb}
+use Rattle.std.proofs.lemmas.List.Sums.{sum_by-le}
+use Rattle.cut_model.specs.declared.network.Link.{Link}
+use Rattle.cut_model.specs.Net.{Net, IsLink, IsInLimits}
+use Rattle.cut_model.specs.Cuts.{RouterSet, differ, across, cut_value}
+use Rattle.cut_model.specs.Flow.{out, IsWithinCaps, IsFlow}
+use Rattle.cut_model.proofs.Duality.{flow_le}
+
+across-le : (X : RouterSet) (routers : ℕ) (link : Link) → IsLink routers link → across X link ≤ 1000000000000
+across-le X routers link is = elim (cases_Bool (differ (X link.a) (X link.b))) [
+  | inl e ↦ rw e is.cap
+  | inr e ↦ rw e (omega arith)
+]
+
+-- A set of routers costs at most the greatest capacity for each link.
+cut_value-le : (net : Net) (X : RouterSet) → IsInLimits net.routers net.links →
+    cut_value net X ≤ length net.links * 1000000000000
+unfolding cut_value
+cut_value-le net X limits = sum_by-le (across X) 1000000000000 net.links
+    (λ k d short. across-le X net.routers _ (limits.within k d short))
+
+-- The value of a flow is at most what all links together can carry.
+pub flow-small : (net : Net) (s t : ℕ) (flow : List ℤ) (k : ℕ) → IsInLimits net.routers net.links →
+    s < net.routers → IsFlow net s t flow k → k ≤ 8192000000000000
+flow-small net s t flow k limits small is =
+    let alone : RouterSet = λ r. r == s in
+    let below : k ≤ cut_value net alone =
+    flow_le net limits s t flow k small is alone
+    (eq-eqb s s refl) (ne_eqb t s (λ e. is.differ_ends (sym e))) in
+    omega (arith, below, cut_value-le net alone limits, limits.few_links)
+
+nothing-sent : (from to : Bool) → ((cond from (pos 0) (pos 0) -ℤ cond to (pos 0) (pos 0)) +ℤ pos 0) ≡ pos 0
+nothing-sent true true = refl
+nothing-sent true false = refl
+nothing-sent false true = refl
+nothing-sent false false = refl
+
+out-still : (r : ℕ) (links : List Link) → out r links (replicate (length links) (pos 0)) ≡ pos 0
+out-still r [] = refl
+out-still r (l ∷ links) = rw (out-still r links) (nothing-sent (l.a == r) (l.b == r))
+
+-- Where nothing flows, there is a flow of 0.
+pub flow-none : (net : Net) (s t : ℕ) (flow : List ℤ) → s ≢ t → IsWithinCaps net.links flow →
+    flow ≡ replicate (length net.links) (pos 0) → IsFlow net s t flow 0
+flow-none net s t flow apart within still = record {
+  differ_ends = apart;
+  within = within;
+  kept = λ r small not_s not_t. ap (out r net.links) still ∙ out-still r net.links;
+  sent = ap (out s net.links) still ∙ out-still s net.links;
+}

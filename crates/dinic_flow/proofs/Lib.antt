@@ -1,0 +1,16 @@
+pub mod Walks
+pub mod Counting
+pub mod Labels
+pub mod Rounds
+pub mod Spreading
+pub mod Levelling
+pub mod Meeting
+pub mod Pushes
+pub mod Sending
+pub mod Relays
+pub mod Advancing
+pub mod Farther
+pub mod Flows
+pub mod Growing
+pub mod OpenArcs
+pub mod Sides

@@ -1,0 +1,383 @@
+-- What is sent on within a phase, arc by arc and part by part.
+use Rattle.std.proofs.Common.{◌≡◌, ◌≢◌, ◌⊎◌, ℕ, ◌+◌, ◌*◌, ◌/◌, ◌<◌, ◌≤◌, min, List, length, get_or}
+use Rattle.std.proofs.Common.{sym, ◌∙◌, ap, subst, arith, refl, inl, inr}
+use Rattle.std.specs.Prelude.{◌==◌, ℤ, pos, ◌+ℤ◌, ◌-ℤ◌, ◌≤ℤ◌, ◌<ℤ◌}
+use Rattle.std.proofs.lemmas.Int.{ints}
+use Rattle.std.proofs.lemmas.Bool.{cases_eq, cases_lt, cases_Bool, ne_eqb}
+use Rattle.cut_model.specs.declared.network.Link.{Link}
+use Rattle.cut_model.specs.Net.{Net, IsInLimits}
+use Rattle.cut_model.specs.Flow.{out}
+use Rattle.residual_graph.specs.declared.place.Place.{Place}
+use Rattle.residual_graph.specs.Arcs.{tail_of, head_of, arc_count}
+use Rattle.residual_graph.specs.Places.{IsPlaceOf, begin_of, place_at}
+use Rattle.residual_graph.specs.View.{ResidualView, IsSound, left_on, pushed}
+use Rattle.residual_graph.proofs.ByPlace.{between-is}
+use Rattle.residual_graph.proofs.Listed.{head_below}
+use Rattle.dinic_flow.specs.Levels.{IsOpen, height, IsLevelled}
+use Rattle.dinic_flow.specs.Sending.{only_at, SendsMore}
+use Rattle.dinic_flow.specs.Phases.{Rises, IsSpent, IsBlocked, HasCome, IsPhase, Sends}
+use Rattle.dinic_flow.proofs.Pushes.{caps-length, out-pushed, left-pushed, left-apart, IsTwin, twins}
+
+le-refl : (x : ℤ) → x ≤ℤ x
+le-refl x = omega (arith, ints)
+
+le-twice : (x y z : ℤ) → x ≤ℤ y → y ≤ℤ z → x ≤ℤ z
+le-twice x y z first second = omega (arith, ints, first, second)
+
+le-falls : (x y : ℤ) (amount : ℕ) → x ≡ (y -ℤ pos amount) → x ≤ℤ y
+le-falls x y amount e = omega (arith, ints, e)
+
+same-le : (x y : ℤ) → x ≡ y → x ≤ℤ y
+same-le x y e = omega (arith, ints, e)
+
+-- ---- arcs by a pushed one
+
+-- An arc is the one, its twin, or one of another link.
+pub data Relation (net : Net) (other arc : ℕ) : Type 0 where
+  Same : other ≡ arc → Relation net other arc
+  Twin : IsTwin net other arc → Relation net other arc
+  Other : (other / 2 ≡ arc / 2 → ⊥) → Relation net other arc
+
+pub relation : (net : Net) (other arc : ℕ) → Relation net other arc
+relation net other arc = elim (cases_eq (other / 2) (arc / 2)) [
+  | inr apart ↦ Other apart
+  | inl same ↦ elim (cases_eq other arc) [
+    | inl e ↦ Same e
+    | inr ne ↦ Twin (twins net other arc same ne)
+  ]
+]
+
+-- A push along an arc that leads on.
+pub record IsPush (before after : ResidualView) (label : List ℕ) (arc amount : ℕ) : Type 0 where
+  pub within : arc < arc_count before.net
+  pub even : length before.flow ≡ length before.net.links
+  pub leads : Rises before.net label arc
+  pub pushes : after ≡ record before { flow = pushed before.flow arc amount }
+
+push-net : (before after : ResidualView) (label : List ℕ) (arc amount : ℕ) → IsPush before after label arc amount →
+    after.net ≡ before.net
+push-net before after label arc amount push = ap (λ (v : ResidualView). v.net) push.pushes
+
+push-flow : (before after : ResidualView) (label : List ℕ) (arc amount : ℕ) → IsPush before after label arc amount →
+    after.flow ≡ pushed before.flow arc amount
+push-flow before after label arc amount push = ap (λ (v : ResidualView). v.flow) push.pushes
+
+-- The arc itself has less left by the amount.
+pub push-own : (before after : ResidualView) (label : List ℕ) (arc amount : ℕ) →
+    IsPush before after label arc amount → left_on after arc ≡ (left_on before arc -ℤ pos amount)
+push-own before after label arc amount push =
+    let half : arc / 2 < length before.flow = omega (arith, push.within, push.even) in
+    left-pushed before after arc amount (push-net before after label arc amount push)
+    (push-flow before after label arc amount push) half
+
+push-apart : (before after : ResidualView) (label : List ℕ) (arc amount other : ℕ) →
+    IsPush before after label arc amount → (other / 2 ≡ arc / 2 → ⊥) → left_on after other ≡ left_on before other
+push-apart before after label arc amount other push apart =
+    left-apart before after arc amount other (push-net before after label arc amount push)
+    (push-flow before after label arc amount push) apart
+
+-- No arc has more left, but one that leads a level back.
+pub push-falls : (before after : ResidualView) (label : List ℕ) (arc amount other : ℕ) →
+    IsPush before after label arc amount →
+    (left_on after other ≤ℤ left_on before other) ⊎ IsTwin before.net other arc
+push-falls before after label arc amount other push = elim (relation before.net other arc) [
+  | Same e ↦ inl (subst (λ (x : ℕ). left_on after x ≤ℤ left_on before x) (sym e)
+      (le-falls _ _ amount (push-own before after label arc amount push)))
+  | Twin twin ↦ inr twin
+  | Other apart ↦ inl (same-le _ _ (push-apart before after label arc amount other push apart))
+]
+
+-- ---- levels
+
+-- A router with a label is as high as its label.
+pub height-label : (mid : ℕ) (label : List ℕ) (r : ℕ) → 0 < get_or label r 0 → height mid label r ≡ get_or label r 0
+height-label mid label r some = elim (cases_eq (get_or label r 0) 0) [
+  | inl none ↦ absurd (omega arith)
+  | inr ne ↦ rw (ne_eqb (get_or label r 0) 0 ne) refl
+]
+
+-- An arc that is open after a push was open before, or leads a level back.
+open-before : (before after : ResidualView) (label : List ℕ) (least arc amount other : ℕ) →
+    IsPush before after label arc amount → IsOpen after least other →
+    IsOpen before least other ⊎ IsTwin before.net other arc
+open-before before after label least arc amount other push is_open =
+    elim (push-falls before after label arc amount other push) [
+      | inl falls ↦ inl (le-twice _ _ _ is_open falls)
+      | inr twin ↦ inr twin
+    ]
+
+-- Levels stay ones after a push along an arc that leads on.
+levelled-push : (before after : ResidualView) (least t : ℕ) (label : List ℕ) (arc amount : ℕ) →
+    IsPush before after label arc amount → 0 < get_or label (tail_of before.net arc) 0 →
+    IsLevelled before least t label → IsLevelled after least t label
+levelled-push before after least t label arc amount push some old =
+    let net : after.net ≡ before.net = push-net before after label arc amount push in
+    let low = height-label old.mid label (tail_of before.net arc) some in
+    let high = height-label old.mid label (head_of before.net arc) (omega (arith, push.leads)) in
+    record {
+      mid = old.mid;
+      size = rw net old.size;
+      few = rw net old.few;
+      most = old.most;
+      only = old.only;
+      rises = λ other within is_open. elim (open-before before after label least arc amount other push is_open) [
+        | inl was ↦ rw net (old.rises other (rw net at within) was)
+        | inr twin ↦ rw (net, twin.head, twin.tail) (omega (arith, low, high, push.leads))
+      ];
+      stays = λ other within is_open none. elim (open-before before after label least arc amount other push is_open) [
+        | inl was ↦ rw net (old.stays other (rw net at within) was (rw net at none))
+        | inr twin ↦ absurd (omega (arith, rw (net, twin.tail) at none, push.leads))
+      ];
+    }
+
+-- What is blocked stays blocked after a push along an arc that leads on.
+blocked-push : (before after : ResidualView) (least t : ℕ) (label cursor : List ℕ) (arc amount other : ℕ) →
+    IsPush before after label arc amount → IsBlocked before least t label cursor other →
+    IsBlocked after least t label cursor other
+blocked-push before after least t label cursor arc amount other push old leads =
+    let net : after.net ≡ before.net = push-net before after label arc amount push in
+    let led : Rises before.net label other = rw net at leads in
+    elim (push-falls before after label arc amount other push) [
+      | inr twin ↦ absurd (omega (arith, rw (twin.head, twin.tail) at led, push.leads))
+      | inl falls ↦ elim (old led) [
+        | inl closed ↦ inl (lt-le _ _ _ falls closed)
+        | inr spent ↦ inr (rw net spent)
+      ]
+    ]
+  where
+    lt-le : (x y z : ℤ) → x ≤ℤ y → y <ℤ z → x <ℤ z
+    lt-le x y z first second = omega (arith, ints, first, second)
+
+-- A state of a phase stays one after a push along an arc that leads on.
+pub phase-push : (before after : ResidualView) (least t : ℕ) (label cursor : List ℕ) (arc amount : ℕ) →
+    IsPush before after label arc amount → 0 < get_or label (tail_of before.net arc) 0 → IsSound after →
+    IsPhase before least t label cursor → IsPhase after least t label cursor
+phase-push before after least t label cursor arc amount push some sound old =
+    let net : after.net ≡ before.net = push-net before after label arc amount push in
+    record {
+      sound = sound;
+      levelled = levelled-push before after least t label arc amount push some old.levelled;
+      come = record {
+        size = rw net old.come.size;
+        fresh = rw net old.come.fresh;
+        above = λ r small. rw net (old.come.above r (rw net at small));
+        below = λ r small. rw net (old.come.below r (rw net at small));
+        blocked = λ r at small low high.
+            let was : IsBlocked before least t label cursor (place_at before.net at).arc =
+            old.come.blocked r at (rw net at small) (rw net at low) high in
+            subst (λ (n : Net). IsBlocked after least t label cursor (place_at n at).arc) (sym net)
+            (blocked-push before after least t label cursor arc amount (place_at before.net at).arc push was);
+      };
+    }
+
+-- ---- what is sent
+
+-- What changes the flow alone, twice, changes the flow alone.
+same-twice : (before between after : ResidualView) →
+    between ≡ record before { flow = between.flow } → after ≡ record between { flow = after.flow } →
+    after ≡ record before { flow = after.flow }
+same-twice before between after first second =
+    second ∙ ap (λ (v : ResidualView). let w : ResidualView = record v { flow = after.flow } in w) first
+
+-- A state of a phase sends nothing to itself.
+sends-none : (links : List Link) (flow : List ℤ) (router t : ℕ) → SendsMore links flow flow router t 0
+sends-none links flow router t r =
+    none (out r links flow) (only_at router r 0) (only_at t r 0) (only-none router r) (only-none t r)
+  where
+    only-none : (router r : ℕ) → only_at router r 0 ≡ pos 0
+    only-none router r = elim (cases_Bool (router == r)) [
+      | inl e ↦ rw e refl
+      | inr e ↦ rw e refl
+    ]
+
+    none : (o a b : ℤ) → a ≡ pos 0 → b ≡ pos 0 → o ≡ ((o +ℤ a) -ℤ b)
+    none o a b first second = omega (arith, ints, first, second)
+
+pub sends-start : (view : ResidualView) (cursor label : List ℕ) (router t : ℕ) →
+    Sends view view cursor cursor label router t 0
+sends-start view cursor label router t = record {
+  same = refl;
+  sends = sends-none view.net.links view.flow router t;
+  falls = λ arc within leads. le-refl (left_on view arc);
+  spares = λ arc within low. refl;
+  moves = λ r. omega arith;
+  keeps = λ r low apart. refl;
+}
+
+-- What comes to the head of an arc, and over the arc, comes from its tail.
+relayed : (o m n a b c : ℤ) → m ≡ ((o +ℤ b) -ℤ c) → n ≡ ((m +ℤ a) -ℤ b) → n ≡ ((o +ℤ a) -ℤ c)
+relayed o m n a b c first second = omega (arith, ints, first, second)
+
+-- What the head of an arc sends to t, its tail sends once it was pushed along the arc.
+pub sends-over : (before between after : ResidualView) (old new label : List ℕ) (arc t amount : ℕ) →
+    Sends before between old new label (head_of before.net arc) t amount →
+    IsPush between after label arc amount → arc < arc_count before.net →
+    Sends before after old new label (tail_of before.net arc) t amount
+sends-over before between after old new label arc t amount sent push within =
+    let net : between.net ≡ before.net = ap (λ (v : ResidualView). v.net) sent.same in
+    let flow : after.flow ≡ pushed between.flow arc amount = push-flow between after label arc amount push in
+    let leads : Rises before.net label arc = rw net at push.leads in
+    let even : length between.flow ≡ length before.net.links = rw net at push.even in
+    let last : after ≡ record between { flow = after.flow } =
+    push.pushes ∙ ap (λ (f : List ℤ). let w : ResidualView = record between { flow = f } in w) (sym flow) in
+    record {
+      same = same-twice before between after sent.same last;
+      sends = λ r.
+          let over : out r before.net.links after.flow ≡ _ =
+          ap (out r before.net.links) flow ∙ out-pushed before.net between.flow arc amount within even r in
+          relayed (out r before.net.links before.flow) (out r before.net.links between.flow)
+          (out r before.net.links after.flow) (only_at (tail_of before.net arc) r amount)
+          (only_at (head_of before.net arc) r amount) (only_at t r amount) (sent.sends r) over;
+      falls = λ other inside on. elim (push-falls between after label arc amount other push) [
+        | inl falls ↦ le-twice _ _ _ falls (sent.falls other inside on)
+        | inr twin ↦
+            let back : IsTwin before.net other arc = rw net at twin in
+            absurd (omega (arith, rw (back.head, back.tail) at on, leads))
+      ];
+      spares = λ other inside low. elim (relation before.net other arc) [
+        | Same e ↦ absurd (omega (arith, ap (λ (x : ℕ). get_or label (tail_of before.net x) 0) e, low))
+        | Twin twin ↦ absurd (omega (arith, rw twin.tail at low, leads))
+        | Other apart ↦
+            push-apart between after label arc amount other push apart
+            ∙ sent.spares other inside (omega (arith, leads, low))
+      ];
+      moves = sent.moves;
+      keeps = λ r low apart. sent.keeps r (omega (arith, leads, low)) (λ e. omega (arith, ap (λ (x : ℕ). get_or label x 0) e, low, leads));
+    }
+
+both : (o m n a b c d e f : ℤ) → m ≡ ((o +ℤ a) -ℤ b) → n ≡ ((m +ℤ c) -ℤ d) → e ≡ (a +ℤ c) → f ≡ (b +ℤ d) →
+    n ≡ ((o +ℤ e) -ℤ f)
+both o m n a b c d e f first second sum_e sum_f = omega (arith, ints, first, second, sum_e, sum_f)
+
+only_at-sum : (router r x y : ℕ) → only_at router r (x + y) ≡ (only_at router r x +ℤ only_at router r y)
+only_at-sum router r x y = elim (cases_Bool (router == r)) [
+  | inl e ↦ rw e (omega (arith, ints))
+  | inr e ↦ rw e refl
+]
+
+-- What a router sends first and then is sent together.
+pub sends-both : (before between after : ResidualView) (old mid new label : List ℕ) (router t x y : ℕ) →
+    Sends before between old mid label router t x → Sends between after mid new label router t y →
+    Sends before after old new label router t (x + y)
+sends-both before between after old mid new label router t x y first second =
+    let net : between.net ≡ before.net = ap (λ (v : ResidualView). v.net) first.same in
+    record {
+      same = same-twice before between after first.same second.same;
+      sends = λ r.
+          let later : out r before.net.links after.flow
+          ≡ ((out r before.net.links between.flow +ℤ only_at router r y) -ℤ only_at t r y) =
+          rw net at (second.sends r) in
+          both (out r before.net.links before.flow) (out r before.net.links between.flow)
+          (out r before.net.links after.flow) (only_at router r x) (only_at t r x) (only_at router r y) (only_at t r y)
+          (only_at router r (x + y)) (only_at t r (x + y)) (first.sends r) later
+          (only_at-sum router r x y) (only_at-sum t r x y);
+      falls = λ arc within leads.
+          le-twice _ _ _ (second.falls arc (rw net within) (rw net leads)) (first.falls arc within leads);
+      spares = λ arc within low. second.spares arc (rw net within) (rw net low) ∙ first.spares arc within low;
+      moves = λ r. omega (arith, first.moves r, second.moves r);
+      keeps = λ r low apart. second.keeps r low apart ∙ first.keeps r low apart;
+    }
+
+-- An arc that is blocked stays blocked, whatever is sent.
+pub blocked-later : (before after : ResidualView) (old new label : List ℕ) (least router t x arc : ℕ) →
+    Sends before after old new label router t x → IsPhase after least t label new → arc < arc_count before.net →
+    IsBlocked before least t label old arc → IsBlocked after least t label new arc
+blocked-later before after old new label least router t x arc sent phase within was leads =
+    let net : after.net ≡ before.net = ap (λ (v : ResidualView). v.net) sent.same in
+    let led : Rises before.net label arc = rw net at leads in
+    elim (was led) [
+      | inl closed ↦ inl (lt-le _ _ _ (sent.falls arc within led) closed)
+      | inr spent ↦
+          let head : ℕ = head_of after.net arc in
+          let small : head < after.net.routers =
+          head_below after.net phase.sound.limits arc (rw net within) in
+          let other : (head ≢ t) × IsSpent after.net old head = rw net spent in
+          inr (other.0, omega (arith, other.1, sent.moves head, phase.come.below head small))
+    ]
+  where
+    lt-le : (x y z : ℤ) → x ≤ℤ y → y <ℤ z → x <ℤ z
+    lt-le x y z first second = omega (arith, ints, first, second)
+
+-- ---- over the arc at a place
+
+-- A place has its arc's head.
+pub place_at-head : (net : Net) (at : ℕ) → (place_at net at).head ≡ head_of net (place_at net at).arc
+unfolding place_at
+place_at-head net at = refl
+
+-- The head of an arc that leads on has sent an amount to t, which is then pushed along the arc.
+pub record IsOver (before between after : ResidualView) (old new label : List ℕ) (arc t amount : ℕ) : Type 0 where
+  pub within : arc < arc_count before.net
+  pub same : between.net ≡ before.net
+  pub sent : Sends before between old new label (head_of before.net arc) t amount
+  pub push : IsPush between after label arc amount
+
+-- What is done at a place whose arc leads on is that.
+pub is_over : (before between after : ResidualView) (old new label : List ℕ) (at least t amount next : ℕ)
+    (place : Place) → place ≡ place_at before.net at → place.arc < arc_count before.net →
+    get_or label place.head 0 ≡ next → next ≡ get_or label (tail_of before.net (place_at before.net at).arc) 0 + 1 →
+    Sends before between old new label place.head t amount → IsPhase between least t label new →
+    after ≡ record between { flow = pushed between.flow place.arc amount } →
+    IsOver before between after old new label (place_at before.net at).arc t amount
+is_over before between after old new label at least t amount next place is inside at_head at_tail sent phase pushes =
+    let arc : ℕ = (place_at before.net at).arc in
+    let is_arc : place.arc ≡ arc = ap (λ (p : Place). p.arc) is in
+    let is_head : place.head ≡ head_of before.net arc = ap (λ (p : Place). p.head) is ∙ place_at-head before.net at in
+    let within : arc < arc_count before.net = subst (λ (x : ℕ). x < arc_count before.net) is_arc inside in
+    let leads : Rises before.net label arc = sym (ap (λ (r : ℕ). get_or label r 0) is_head) ∙ at_head ∙ at_tail in
+    let same : between.net ≡ before.net = ap (λ (v : ResidualView). v.net) sent.same in
+    record {
+      within = within;
+      same = same;
+      sent = subst (λ (r : ℕ). Sends before between old new label r t amount) is_head sent;
+      push = record {
+        within = rw same within;
+        even = caps-length between.net.links between.flow phase.sound.within;
+        leads = rw same leads;
+        pushes = subst (λ (x : ℕ). after ≡ record between { flow = pushed between.flow x amount }) is_arc pushes;
+      };
+    }
+
+-- The arc's tail has sent the amount.
+pub over-sends : (before between after : ResidualView) (old new label : List ℕ) (arc t amount : ℕ) →
+    IsOver before between after old new label arc t amount →
+    Sends before after old new label (tail_of before.net arc) t amount
+over-sends before between after old new label arc t amount over =
+    sends-over before between after old new label arc t amount over.sent over.push over.within
+
+closes : (x y z : ℤ) (left amount least : ℕ) → pos left ≡ x → y ≡ x → z ≡ (y -ℤ pos amount) → amount ≡ left →
+    0 < least → z <ℤ pos least
+closes x y z left amount least first second third whole some = omega (arith, ints, first, second, third, whole, some)
+
+-- The arc is blocked then, if less than the limit was sent: it is closed, or its head is spent.
+pub over-blocked : (before between after : ResidualView) (old new label : List ℕ)
+    (arc least t left most limit amount : ℕ) → IsOver before between after old new label arc t amount → 0 < least →
+    pos left ≡ left_on before arc → most ≡ min left limit → amount ≤ most →
+    (amount < most → (head_of before.net arc ≢ t) × IsSpent between.net new (head_of before.net arc)) →
+    amount < limit → IsBlocked after least t label new arc
+over-blocked before between after old new label arc least t left most limit amount over some is most_is below spent short leads =
+    let same : after.net ≡ between.net = push-net between after label arc amount over.push in
+    let led : Rises before.net label arc = rw over.same at over.push.leads in
+    let spared : left_on between arc ≡ left_on before arc = over.sent.spares arc over.within (omega (arith, led)) in
+    elim (cases_lt amount most) [
+      | inl less ↦ inr (rw (same, over.same) (rw over.same at (spent less)))
+      | inr all ↦
+          let whole : amount ≡ left = omega (arith, most_is, below, all, short) in
+          inl (closes (left_on before arc) (left_on between arc) (left_on after arc) left amount least is spared
+          (push-own between after label arc amount over.push) whole some)
+    ]
+
+-- The arcs that a router has passed stay blocked, whatever is sent.
+pub passed-later : (before after : ResidualView) (old new label : List ℕ) (least router t x from to : ℕ) →
+    Sends before after old new label router t x → IsPhase after least t label new →
+    IsInLimits before.net.routers before.net.links → router < before.net.routers →
+    begin_of before.net router ≤ from → to ≤ begin_of before.net (router + 1) →
+    ((at : ℕ) → from ≤ at → at < to → IsBlocked before least t label old (place_at before.net at).arc) →
+    (at : ℕ) → from ≤ at → at < to → IsBlocked after least t label new (place_at after.net at).arc
+passed-later before after old new label least router t x from to sent phase limits small start end passed at low high =
+    let net : after.net ≡ before.net = ap (λ (v : ResidualView). v.net) sent.same in
+    let leaves : IsPlaceOf before.net router (place_at before.net at) =
+    between-is before.net limits router at small (omega arith) (omega arith) in
+    subst (λ (n : Net). IsBlocked after least t label new (place_at n at).arc) (sym net)
+    (blocked-later before after old new label least router t x (place_at before.net at).arc sent phase leaves.arc
+    (passed at low high))

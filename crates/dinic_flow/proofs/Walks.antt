@@ -1,0 +1,126 @@
+-- Walks that are joined, and arcs that are followed either way.
+use Rattle.std.proofs.Common.{◌≡◌, ℕ, zero, suc, ◌+◌, ◌-◌, ◌/◌, ◌%◌, ◌<◌, ◌≤◌, Bool, true, false}
+use Rattle.std.proofs.Common.{sym, ◌∙◌, subst, arith, refl, inl, inr, eq-eqb}
+use Rattle.std.specs.Prelude.{◌==◌, ℤ, pos, ◌≤ℤ◌}
+use Rattle.std.proofs.lemmas.Int.{ints}
+use Rattle.std.proofs.lemmas.Bool.{cases_eq, ne_eqb}
+use Rattle.cut_model.specs.Net.{Net}
+use Rattle.residual_graph.specs.Arcs.{tail_in, head_in, tail_of, head_of, arc_count, twin, turned}
+use Rattle.residual_graph.specs.View.{ResidualView}
+use Rattle.dinic_flow.specs.Levels.{IsOpen, OpenArc, Walk}
+use Rattle.dinic_flow.specs.Balls.{LeadsOn, WalksOn}
+
+-- Two walks, one behind the other, are one.
+pub walk-append : (view : ResidualView) (least : ℕ) (first second : ℕ) (u v w : ℕ) →
+    Walk view least first u v → Walk view least second v w → Walk view least (first + second) u w
+walk-append view least zero second u v w same rest =
+    let none : second ≡ 0 + second = omega arith in
+    subst (λ (n : ℕ). Walk view least n u w) none (subst (λ (r : ℕ). Walk view least second r w) (sym same) rest)
+walk-append view least (suc first) second u v w (next, arc, walk) rest =
+    let joined : Walk view least (suc (first + second)) u w =
+    (next, arc, walk-append view least first second next v w walk rest) in
+    let more : suc (first + second) ≡ suc first + second = omega arith in
+    subst (λ (n : ℕ). Walk view least n u w) more joined
+
+-- An open arc is a walk.
+pub walk-arc : (view : ResidualView) (least : ℕ) (u v : ℕ) → OpenArc view least u v → Walk view least 1 u v
+walk-arc view least u v arc = (v, arc, refl)
+
+-- A walk goes on over one arc more.
+pub walks-more : (view : ResidualView) (least : ℕ) (back : Bool) (arcs u v w : ℕ) →
+    WalksOn view least back arcs u v → LeadsOn view least back v w → WalksOn view least back (arcs + 1) u w
+walks-more view least false arcs u v w walk arc =
+    walk-append view least arcs 1 u v w walk (walk-arc view least v w arc)
+walks-more view least true arcs u v w walk arc =
+    let joined : Walk view least (suc arcs) w u = (v, arc, walk) in
+    let more : suc arcs ≡ arcs + 1 = omega arith in
+    subst (λ (n : ℕ). Walk view least n w u) more joined
+
+-- A walk of no arc stays where it is.
+pub walks-none : (view : ResidualView) (least : ℕ) (back : Bool) (u v : ℕ) → WalksOn view least back 0 u v → u ≡ v
+walks-none view least false u v walk = walk
+walks-none view least true u v walk = sym walk
+
+-- An arc's twin is an arc of the same link the other way, whose twin is the arc.
+pub record IsTwin (net : Net) (arc back : ℕ) : Type 0 where
+  pub within : back < arc_count net
+  pub tail : tail_of net back ≡ head_of net arc
+  pub head : head_of net back ≡ tail_of net arc
+  pub again : twin back ≡ arc
+
+-- The twin of an arc of even number is the next.
+even-twin : (net : Net) (arc : ℕ) → arc < arc_count net → arc % 2 ≡ 0 → IsTwin net arc (twin arc)
+unfolding tail_in head_in twin
+even-twin net arc within even =
+    let is_even : (arc % 2 == 0) ≡ true = eq-eqb (arc % 2) 0 even in
+    let odd : ((arc + 1) % 2 == 0) ≡ false = ne_eqb ((arc + 1) % 2) 0 (λ e. omega arith) in
+    let half : (arc + 1) / 2 ≡ arc / 2 = omega arith in
+    let there : (arc + 1) - 1 ≡ arc = omega arith in
+    record {
+      within = rw is_even (omega arith);
+      tail = rw (is_even, odd, half) refl;
+      head = rw (is_even, odd, half) refl;
+      again = rw (is_even, odd) there;
+    }
+
+-- The twin of an arc of odd number is the one before.
+odd-twin : (net : Net) (arc : ℕ) → arc < arc_count net → arc % 2 ≡ 1 → IsTwin net arc (twin arc)
+unfolding tail_in head_in twin
+odd-twin net arc within odd =
+    let is_odd : (arc % 2 == 0) ≡ false = ne_eqb (arc % 2) 0 (λ e. omega arith) in
+    let even : ((arc - 1) % 2 == 0) ≡ true = eq-eqb ((arc - 1) % 2) 0 (omega arith) in
+    let half : (arc - 1) / 2 ≡ arc / 2 = omega arith in
+    let there : (arc - 1) + 1 ≡ arc = omega arith in
+    record {
+      within = rw is_odd (omega arith);
+      tail = rw (is_odd, even, half) refl;
+      head = rw (is_odd, even, half) refl;
+      again = rw (is_odd, even) there;
+    }
+
+-- Each arc has its twin.
+is-twin : (net : Net) (arc : ℕ) → arc < arc_count net → IsTwin net arc (twin arc)
+is-twin net arc within = elim (cases_eq (arc % 2) 0) [
+  | inl even ↦ even-twin net arc within even
+  | inr odd ↦ odd-twin net arc within (omega (arith, odd))
+]
+
+-- An arc leads on from its tail to its head, if it is open the way that is followed.
+pub leads-along : (view : ResidualView) (least : ℕ) (back : Bool) (arc : ℕ) → arc < arc_count view.net →
+    IsOpen view least (turned back arc) → LeadsOn view least back (tail_of view.net arc) (head_of view.net arc)
+leads-along view least false arc within is_open =
+    record { arc = arc; within = within; tail = refl; head = refl; is_open = is_open }
+leads-along view least true arc within is_open =
+    let other : IsTwin view.net arc (twin arc) = is-twin view.net arc within in
+    record { arc = twin arc; within = other.within; tail = other.tail; head = other.head; is_open = is_open }
+
+-- An arc from u to v that is open the way that is followed.
+pub record ArcAlong (view : ResidualView) (least : ℕ) (back : Bool) (u v : ℕ) : Type 0 where
+  pub arc : ℕ
+  pub within : arc < arc_count view.net
+  pub tail : tail_of view.net arc ≡ u
+  pub head : head_of view.net arc ≡ v
+  pub is_open : IsOpen view least (turned back arc)
+
+-- Where an open arc leads on from u to v, there is such an arc from u to v.
+pub arc-along : (view : ResidualView) (least : ℕ) (back : Bool) (u v : ℕ) → LeadsOn view least back u v →
+    ArcAlong view least back u v
+arc-along view least false u v arc =
+    record { arc = arc.arc; within = arc.within; tail = arc.tail; head = arc.head; is_open = arc.is_open }
+arc-along view least true u v arc =
+    let other : IsTwin view.net arc.arc (twin arc.arc) = is-twin view.net arc.arc arc.within in
+    record {
+      arc = twin arc.arc;
+      within = other.within;
+      tail = other.tail ∙ arc.head;
+      head = other.head ∙ arc.tail;
+      is_open = rw other.again arc.is_open;
+    }
+
+-- Where at least so much is left, an arc is open.
+pub open-left : (least x : ℕ) (z : ℤ) → pos x ≡ z → least ≤ x → pos least ≤ℤ z
+open-left least x z is enough = omega (arith, ints, is, enough)
+
+-- Where an arc is open, at least so much is left.
+pub left-open : (least x : ℕ) (z : ℤ) → pos x ≡ z → pos least ≤ℤ z → least ≤ x
+left-open least x z is is_open = omega (arith, ints, is, is_open)

@@ -1,0 +1,18 @@
+use Rattle.std.proofs.Common.{◌≡◌, ◌+◌, ◌-◌, ◌≤◌, false, true, length, get_or}
+use Rattle.dinic_flow.specs.Balls.{AreApart, IsBall, work_of}
+use Rattle.dinic_flow.proofs.search.search.Given as goal
+
+abbrev pub invariant-loop-near : goal.invariant-loop-near
+invariant-loop-near g l = record {
+  near_ball : IsBall l.graph l.least false l.label l.ahead l.near.front l.near.known l.near.known l.near.radius;
+  far_ball : IsBall l.graph l.least true l.marks l.behind l.far.front l.far.known l.far.known l.far.radius;
+  near_few : l.near.known ≤ l.graph.net.routers;
+  far_few : l.far.known ≤ l.graph.net.routers;
+  apart : AreApart l.label l.marks;
+  start : get_or l.ahead 0 0 ≡ l.s;
+  end : get_or l.behind 0 0 ≡ l.t;
+  steps : l.steps ≤ l.fn.steps + work_of l.graph.net l.ahead l.near.front + work_of l.graph.net l.behind l.far.front;
+}
+
+abbrev pub decreases-loop-near : goal.decreases-loop-near
+decreases-loop-near g l = (length l.initial.ahead - l.near.front) + (length l.initial.behind - l.far.front)

@@ -1,0 +1,7 @@
+pub mod Levels
+pub mod Balls
+pub mod Searching
+pub mod Sending
+pub mod Phases
+pub mod Room
+pub mod Desk

@@ -1,0 +1,332 @@
+//! A search from both ends.
+ghost use Rattle.std.specs.Prelude.{◌≡◌, ◌≢◌, ◌↔◌, ℕ, ◌+◌, ◌<◌, ◌≤◌};
+ghost use Rattle.std.specs.Prelude.{All, IsTrue, IsFalse, length, replicate};
+ghost use Rattle.std.specs.Prelude.{slice_index, slice_set};
+ghost use Rattle.residual_graph.specs.Arcs.{arc_count, arcs_from, tail_of, turned};
+ghost use Rattle.residual_graph.specs.Places.{IsPlaceOf};
+ghost use Rattle.residual_graph.specs.View.{IsSound};
+ghost use Rattle.dinic_flow.specs.Levels.{IsOpen};
+ghost use Rattle.dinic_flow.specs.Balls.{IsLabelled, Grows, LeadsOn, AreApart, Meets};
+ghost use Rattle.dinic_flow.specs.Balls.{IsBall, Crosses, work_of, IsLetOut, IsNumbered};
+ghost use Rattle.dinic_flow.specs.Searching.{IsFound};
+
+use cut_model::Steps;
+use residual_graph::{Place, Residual};
+use std::sync::ledger::Ledger;
+
+/// The label of a router without a label.
+const NO_LABEL: u32 = 0;
+
+/// What a search found.
+#[derive(Clone, Copy, Debug)]
+pub enum Found {
+    /// So many open arcs lead from s to t, and no fewer.
+    Joined(u32),
+    /// The first so many of the queue of s are all routers that s reaches.
+    Apart(usize),
+}
+
+/// How far a ball has come: the first `known` routers of its queue are in it, and those from `front`
+/// on are `radius` open arcs away from its centre.
+#[derive(Clone, Copy)]
+struct Ball {
+    front: usize,
+    known: usize,
+    radius: u32,
+}
+
+/// How many routers a queue has, and whether an open arc joins the balls.
+#[derive(Clone, Copy)]
+struct Round {
+    known: usize,
+    joined: bool,
+}
+
+/// Begins a ball: its centre alone has a label, which is 1.
+fn begin(centre: u32, label: &mut [u32], queue: &mut [u32]) -> Ball
+    requires label { centre < length label.old }
+    requires queue { 0 < length queue.old }
+    ensures label { label.new ≡ slice_set (replicate (length label.old) 0) centre 1 }
+    ensures queue { queue.new ≡ slice_set queue.old 0 centre }
+    ensures ball { result ≡ record { front = 0; known = 1; radius = 0 } }
+{
+    label.fill(NO_LABEL);
+    label[centre as usize] = 1;
+    queue[0] = centre;
+    Ball {
+        front: 0,
+        known: 1,
+        radius: 0,
+    }
+}
+
+/// Whether a router has neither of two labels. One test costs less than two.
+#[inline(always)]
+fn is_new(first: u32, second: u32) -> bool
+    ensures { IsTrue result ↔ ((first ≡ 0) × (second ≡ 0)) }
+{
+    first | second == NO_LABEL
+}
+
+/// Gives the label to the head of an arc, and puts it into the queue, if the arc is open and the
+/// head has no label yet. Where the head is in the other ball, it stays so, and the balls are joined.
+/// At most one step.
+#[inline(always)]
+fn reach<L: Ledger>(
+    graph: &Residual,
+    place: Place,
+    back: bool,
+    next: u32,
+    least: u64,
+    label: &mut [u32],
+    other: &[u32],
+    queue: &mut [u32],
+    known: usize,
+    steps: &mut Steps<L>,
+) -> Round
+    requires limit { graph.now.net.routers ≤ 1024 }
+    requires place { IsPlaceOf graph.now.net (tail_of graph.now.net place.arc) place }
+    requires label { graph.now.net.routers ≤ length label.old }
+    requires other { graph.now.net.routers ≤ length other.now }
+    requires queue { graph.now.net.routers ≤ length queue.old }
+    requires labelled { IsLabelled graph.now least back label.old queue.old known }
+    requires level { slice_index label.old (tail_of graph.now.net place.arc) + 1 ≡ next }
+    requires tail { 0 < slice_index label.old (tail_of graph.now.net place.arc) }
+    requires apart { AreApart label.old other.now }
+    ensures labelled { IsLabelled graph.now least back label.new queue.new result.known }
+    ensures grows { Grows label.old queue.old known next label.new queue.new result.known }
+    ensures apart { AreApart label.new other.now }
+    ensures reached { IsFalse result.joined → IsOpen graph.now least (turned back place.arc) →
+        0 < slice_index label.new place.head }
+    ensures crosses { IsTrue result.joined →
+        Crosses graph.now least back other.now (tail_of graph.now.net place.arc) }
+    ensures steps { steps.new ≤ steps.old + 1 }
+{
+    let head = place.head as usize;
+    if is_new(label[head], other[head]) {
+        if graph.left_along(place.arc, back, steps) < least {
+            return Round {
+                known,
+                joined: false,
+            };
+        }
+        label[head] = next;
+        queue[known] = place.head;
+        return Round {
+            known: known + 1,
+            joined: false,
+        };
+    }
+    let joined = label[head] == NO_LABEL && graph.left_along(place.arc, back, steps) >= least;
+    Round { known, joined }
+}
+
+/// Reaches on along the arcs of a router, until one joins the balls. At most one step an arc.
+#[inline(always)]
+fn look_around<L: Ledger>(
+    graph: &Residual,
+    router: u32,
+    back: bool,
+    next: u32,
+    least: u64,
+    label: &mut [u32],
+    other: &[u32],
+    queue: &mut [u32],
+    known: usize,
+    steps: &mut Steps<L>,
+) -> Round
+    requires limit { graph.now.net.routers ≤ 1024 }
+    requires router { router < graph.now.net.routers }
+    requires label { graph.now.net.routers ≤ length label.old }
+    requires other { graph.now.net.routers ≤ length other.now }
+    requires queue { graph.now.net.routers ≤ length queue.old }
+    requires labelled { IsLabelled graph.now least back label.old queue.old known }
+    requires level { slice_index label.old router + 1 ≡ next }
+    requires tail { 0 < slice_index label.old router }
+    requires apart { AreApart label.old other.now }
+    ensures labelled { IsLabelled graph.now least back label.new queue.new result.known }
+    ensures grows { Grows label.old queue.old known next label.new queue.new result.known }
+    ensures apart { AreApart label.new other.now }
+    ensures reached { IsFalse result.joined → (v : ℕ) → LeadsOn graph.now least back router v →
+        0 < slice_index label.new v }
+    ensures crosses { IsTrue result.joined → Crosses graph.now least back other.now router }
+    ensures steps { steps.new ≤ steps.old + length (arcs_from graph.now.net router) }
+{
+    let mut known = known;
+    for place in graph.places_of(router) {
+        let round = reach(
+            graph, *place, back, next, least, label, other, queue, known, steps,
+        );
+        if round.joined {
+            return round;
+        }
+        known = round.known;
+    }
+    Round {
+        known,
+        joined: false,
+    }
+}
+
+/// Spreads a ball by one arc, until an open arc joins it with the other one. At most one step for each
+/// arc of the routers at its front.
+#[inline(always)]
+fn spread<L: Ledger>(
+    graph: &Residual,
+    back: bool,
+    least: u64,
+    ball: Ball,
+    label: &mut [u32],
+    other: &[u32],
+    queue: &mut [u32],
+    steps: &mut Steps<L>,
+) -> Round
+    requires limit { graph.now.net.routers ≤ 1024 }
+    requires label { graph.now.net.routers ≤ length label.old }
+    requires other { graph.now.net.routers ≤ length other.now }
+    requires queue { graph.now.net.routers ≤ length queue.old }
+    requires some { ball.front < ball.known }
+    requires ball { IsBall graph.now least back label.old queue.old
+        ball.front ball.known ball.known ball.radius }
+    requires apart { AreApart label.old other.now }
+    ensures more { ball.known ≤ result.known }
+    ensures few { result.known ≤ graph.now.net.routers }
+    ensures centre { slice_index queue.new 0 ≡ slice_index queue.old 0 }
+    ensures apart { AreApart label.new other.now }
+    ensures grown { IsFalse result.joined →
+        IsBall graph.now least back label.new queue.new
+        ball.known result.known result.known (ball.radius + 1) }
+    ensures stopped { IsTrue result.joined →
+        IsBall graph.now least back label.new queue.new
+        ball.front ball.known result.known ball.radius }
+    ensures meets { IsTrue result.joined →
+        Meets graph.now least back label.new other.now ball.radius }
+    ensures steps { steps.new + work_of graph.now.net queue.old ball.front
+        ≤ steps.old + work_of graph.now.net queue.new ball.known }
+{
+    let mut known = ball.known;
+    for done in ball.front..ball.known {
+        let round = look_around(
+            graph,
+            queue[done],
+            back,
+            ball.radius + 2,
+            least,
+            label,
+            other,
+            queue,
+            known,
+            steps,
+        );
+        if round.joined {
+            return round;
+        }
+        known = round.known;
+    }
+    Round {
+        known,
+        joined: false,
+    }
+}
+
+impl Ball {
+    /// The ball after a round that left so many routers in its queue.
+    fn grown(self, known: usize) -> Ball
+        requires { self.radius < 1024 }
+        ensures { result ≡ record { front = self.known; known = known; radius = self.radius + 1 } }
+    {
+        Ball {
+            front: self.known,
+            known,
+            radius: self.radius + 1,
+        }
+    }
+}
+
+/// Whether the ball about s grows next: at first, where that about t can't, and where its front has
+/// at most half as many routers.
+fn grows_near(near: Ball, far: Ball) -> bool
+    requires near { near.front ≤ near.known }
+    requires small { near.known ≤ 1024 }
+    requires far { far.front ≤ far.known }
+    ensures { IsFalse result → far.front < far.known }
+{
+    near.radius == 0
+        || far.front == far.known
+        || 2 * (near.known - near.front) <= far.known - far.front
+}
+
+/// Takes the labels of these routers away.
+fn unlabel(label: &mut [u32], queue: &[u32])
+    requires { All (λ r. r < length label.old) queue.now }
+    ensures { IsLetOut label.old label.new queue.now }
+{
+    for router in queue {
+        label[*router as usize] = NO_LABEL;
+    }
+}
+
+/// Gives each of these routers the label that its mark leaves of a total.
+fn number(label: &mut [u32], marks: &[u32], queue: &[u32], total: u32)
+    requires label { All (λ r. r < length label.old) queue.now }
+    requires marks { All (λ r. r < length marks.now) queue.now }
+    requires small { All (λ r. slice_index marks.now r ≤ total) queue.now }
+    ensures { IsNumbered label.old label.new marks.now queue.now total }
+{
+    for router in queue {
+        label[*router as usize] = total - marks[*router as usize];
+    }
+}
+
+/// Searches a walk of fewest open arcs from s to t, by balls about both. The smaller front grows,
+/// until an open arc joins the balls, or that of s can't grow (Pohl, 1971). It looks at each arc
+/// at most once.
+///
+/// Where they join, `label` has the levels. Where they don't, `ahead` begins with the routers that
+/// s reaches. `marks` has the labels of the ball about t, and `behind` its routers: what the two hold
+/// afterwards means nothing.
+pub fn search<L: Ledger>(
+    graph: &Residual,
+    s: u32,
+    t: u32,
+    least: u64,
+    label: &mut [u32],
+    marks: &mut [u32],
+    ahead: &mut [u32],
+    behind: &mut [u32],
+    steps: &mut Steps<L>,
+) -> Found
+    requires sound { IsSound graph.now }
+    requires differ { s ≢ t }
+    requires s { s < graph.now.net.routers }
+    requires t { t < graph.now.net.routers }
+    requires label { length label.old ≡ graph.now.net.routers }
+    requires marks { length marks.old ≡ graph.now.net.routers }
+    requires ahead { length ahead.old ≡ graph.now.net.routers }
+    requires behind { length behind.old ≡ graph.now.net.routers }
+    ensures found { IsFound graph.now least s t label.new ahead.new result }
+    ensures steps { steps.new ≤ steps.old + arc_count graph.now.net }
+{
+    let mut near = begin(s, label, ahead);
+    let mut far = begin(t, marks, behind);
+    while near.front < near.known {
+        let distance = near.radius + far.radius + 1;
+        if grows_near(near, far) {
+            let round = spread(graph, false, least, near, label, marks, ahead, steps);
+            if round.joined {
+                unlabel(label, &ahead[near.known..round.known]);
+                number(label, marks, &behind[..far.known], distance + 2);
+                return Found::Joined(distance);
+            }
+            near = near.grown(round.known);
+        } else {
+            let round = spread(graph, true, least, far, marks, label, behind, steps);
+            if round.joined {
+                number(label, marks, &behind[..far.known], distance + 2);
+                return Found::Joined(distance);
+            }
+            far = far.grown(round.known);
+        }
+    }
+    Found::Apart(near.known)
+}
