@@ -1,6 +1,6 @@
 -- Which text answers the items of a session, over the records that its shelf has seen.
 use Rattle.std.specs.Prelude.{◌≡◌, ℕ, ◌+◌, ◌<◌, ◌≤◌, ◌⊎◌, List, [], ◌∷◌, ◌++◌, Bool, true, length, Some, None}
-use Rattle.std.specs.Prelude.{Result, Ok, Err, IfSome}
+use Rattle.std.specs.Prelude.{Result, Ok, Err}
 use Rattle.std.specs.declared.option.Option.{Option}
 use Rattle.cut_model.specs.Cuts.{IsLeastCut, set_of}
 use Rattle.network_text.specs.Faults.{kind_number}
@@ -8,9 +8,9 @@ use Rattle.network_text.specs.Sheets.{SheetView}
 use Rattle.network_text.specs.Texts.{verdict_of}
 use Rattle.network_text.specs.declared.fault.TextFault.{TextFault}
 use Rattle.query_lang.specs.Requests.{request_of, fault_number}
-use Rattle.query_lang.specs.Replies.{loaded_text, bye_text, refused_text, cut_text, net_text, tree_text, run_text}
+use Rattle.query_lang.specs.Replies.{loaded_text, bye_text, refused_text, cut_text, net_text}
 use Rattle.query_lang.specs.declared.request.Request.{Request}
-use Rattle.query_lang.specs.declared.request.Request.TheVariants.{Cut, Net, Tree, Run}
+use Rattle.query_lang.specs.declared.request.Request.TheVariants.{Cut, Net}
 use Rattle.query_lang.specs.declared.request.RequestFault.{RequestFault}
 use Rattle.text_forms.specs.Items.{Item, Ask, Load, Bye}
 use Rattle.tree_versions.specs.Records.{RecordView, record_at}
@@ -27,8 +27,6 @@ pub record IsCutReply (sheet : SheetView) (version a b : ℕ) (reply : List ℕ)
 abbrev pub RepliesFrom : RecordView → ℕ → Request → List ℕ → Type 0
 RepliesFrom seen version (Cut a b) reply = IsCutReply seen.sheet version a b reply
 RepliesFrom seen version Net reply = reply ≡ net_text version seen.sheet
-RepliesFrom seen version Tree reply = reply ≡ tree_text version seen.sheet seen.history
-RepliesFrom seen version Run reply = reply ≡ run_text version seen.sheet seen.history
 RepliesFrom seen version request reply = ⊥
 
 -- the reply to a request line: its refusal, or a reply from the record of the version
@@ -62,7 +60,9 @@ pub record Stays (alone : Bool) (records : List RecordView) (seen next : ℕ) : 
 pub record IsLoaded (alone : Bool) (records : List RecordView) (seen : ℕ) (sheet : SheetView) (reply : List ℕ)
     (next loads : ℕ) : Type 0 where
   pub later : seen < next
-  pub place : IfSome (record_at records next) (λ made. made.sheet ≡ sheet)
+  pub made : RecordView
+  pub place : record_at records next ≡ Some made
+  pub shows : made.sheet ≡ sheet
   pub there : next ≤ length records
   pub text : reply ≡ loaded_text next sheet.net
   pub same : alone ≡ true → next ≡ seen + 1
@@ -78,29 +78,29 @@ pub record IsRefusedFull (alone : Bool) (records : List RecordView) (seen : ℕ)
   pub same : alone ≡ true → seen ≡ 256
   pub counted : loads ≡ 0
 
--- Nothing was published, and this is the refusal.
-pub record IsRefused (alone : Bool) (records : List RecordView) (seen next loads : ℕ) (refusal : Type 0) : Type 0 where
+-- Nothing was published, and the reply is as told.
+pub record IsTold (alone : Bool) (records : List RecordView) (seen next loads : ℕ) (told_so : Type 0) : Type 0 where
   pub stays : Stays alone records seen next
-  pub told : refusal
+  pub told : told_so
   pub counted : loads ≡ 0
 
 -- A network with this verdict was loaded: a faulty text is refused; a sheet is published, or refused where 256 records
 -- stand; want of memory may come in place of each of these.
 abbrev pub LoadStep : Bool → List RecordView → ℕ → Result SheetView TextFault → List ℕ → ℕ → ℕ → Type 0
 LoadStep alone records seen (Err fault) reply next loads =
-    IsRefused alone records seen next loads (IsTextRefusal next fault reply)
+    IsTold alone records seen next loads (IsTextRefusal next fault reply)
 LoadStep alone records seen (Ok sheet) reply next loads =
     IsLoaded alone records seen sheet reply next loads
     ⊎ IsRefusedFull alone records seen reply next loads
-    ⊎ IsRefused alone records seen next loads (reply ≡ refused_text next 90 None)
+    ⊎ IsTold alone records seen next loads (reply ≡ refused_text next 90 None)
 
 -- An item is answered by the reply, and leads from one version to the next.
 abbrev pub Step : Bool → List RecordView → ℕ → Item → List ℕ → ℕ → ℕ → Type 0
 Step alone records seen (Ask line) reply next loads =
-    IsRefused alone records seen next loads (IsReply (record_at records next) next line reply)
+    IsTold alone records seen next loads (IsReply (record_at records next) next line reply)
 Step alone records seen (Load text whole) reply next loads =
     LoadStep alone records seen (verdict_of text whole) reply next loads
-Step alone records seen Bye reply next loads = IsRefused alone records seen next loads (reply ≡ bye_text next)
+Step alone records seen Bye reply next loads = IsTold alone records seen next loads (reply ≡ bye_text next)
 
 -- The text begins with the reply to an item, and P holds of the version after it, the rest of the text and the number
 -- of accepted LOADs in it.

@@ -1,0 +1,35 @@
+-- How a run of one session over the source and the sink ends.
+use Rattle.std.specs.Prelude.{ℕ, List, [], length, All, Bool, true}
+use Rattle.std.specs.declared.option.Option.{Option}
+use Rattle.session.specs.Answers.{Alone}
+use Rattle.session.specs.Sessions.{Breaks as SessionBreaks, Ends, IsComplete, IsCutShort, IsTooLong}
+use Rattle.tree_state.specs.History.{IsComplete as IsCompleteRun}
+use Rattle.tree_versions.specs.Records.{RecordView}
+
+-- Each record holds a complete history of its own network.
+abbrev pub AreFinished : List RecordView → Type 0
+AreFinished records = All (λ (r : RecordView). IsCompleteRun r.sheet.net r.history) records
+
+-- The input was read to its end, or to a BYE, and the text answers its items over these records and no others.
+abbrev pub EndsWhole : Option (List ℕ) → Option (List ℕ) → Option (List ℕ) → Bool → Option (List ℕ)
+    → List RecordView → Type 0
+EndsWhole left0 written0 left ended written records =
+    Ends (IsComplete ended left) left0 written0 left ended written (Alone records 0)
+
+-- The source failed, and the text answers the items over these records and no others.
+abbrev pub EndsShort : Option (List ℕ) → Option (List ℕ) → Option (List ℕ) → Bool → Option (List ℕ)
+    → List RecordView → Type 0
+EndsShort left0 written0 left ended written records =
+    Ends (IsCutShort ended) left0 written0 left ended written (Alone records 0)
+
+-- Too much was sent, and the text answers the items over these records and no others.
+abbrev pub EndsLong : Option (List ℕ) → Option (List ℕ) → Option (List ℕ) → Bool → Option (List ℕ)
+    → List RecordView → Type 0
+EndsLong left0 written0 left ended written records =
+    Ends (IsTooLong ended) left0 written0 left ended written (Alone records 0)
+
+-- The sink failed, and the text answers a front of the items, but for a part of the last reply.
+abbrev pub Breaks : Option (List ℕ) → Option (List ℕ) → Option (List ℕ) → Bool → Option (List ℕ)
+    → List RecordView → Type 0
+Breaks left0 written0 left ended written records =
+    SessionBreaks left0 written0 left ended written true [] 0 records (length records)
