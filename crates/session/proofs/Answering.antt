@@ -1,160 +1,270 @@
--- How replies to stretches of items join, and stay right while records are added.
-use Rattle.std.proofs.Common.{◌≡◌, ℕ, zero, suc, ◌<◌, ◌≤◌, List, [], ◌∷◌, ◌++◌, length, Some, Result, Ok, Err}
-use Rattle.std.proofs.Common.{refl, sym, ap}
-use Rattle.std.proofs.Common.{◌∙◌, arith, append_assoc, subst, inl, inr, length-append}
+-- How replies to stretches of items join, and stay right while the list of records grows.
+use Rattle.std.proofs.Common.{◌≡◌, ℕ, zero, suc, ◌+◌, ◌<◌, ◌≤◌, List, [], ◌∷◌, ◌++◌, Bool, true, length, None, Some}
+use Rattle.std.proofs.Common.{Result, Ok, Err, refl, sym, ap, ◌∙◌, arith, append_assoc, subst, inl, inr, length-append}
 use Rattle.std.proofs.lemmas.List.{append-nil}
 use Rattle.std.specs.declared.option.Option.{Option}
 use Rattle.std.specs.Prelude.{slice_get}
 use Rattle.network_text.specs.Sheets.{SheetView}
 use Rattle.network_text.specs.Texts.{verdict_of}
 use Rattle.network_text.specs.declared.fault.TextFault.{TextFault}
-use Rattle.planner_server.specs.Answers.{record_at, IsReply, LoadStep, Step, Alone, AloneTo}
-use Rattle.planner_server.specs.Modes.{Grows, Gives}
+use Rattle.query_lang.specs.Replies.{refused_text}
+use Rattle.session.specs.Answers.{Answers, IsLoaded, IsRefusedFull, IsReply, IsTold, LoadStep, Stays, Step}
+use Rattle.session.specs.Modes.{Gives, IsReached, IsServed, Leads, Reaches}
 use Rattle.text_forms.specs.Items.{Item, Ask, Load, Bye}
+use Rattle.tree_versions.specs.Records.{RecordView, Grows, record_at}
+use Rattle.tree_versions.specs.Shelves.{Looks}
 
 -- two stretches of items, one after the other
-pub AloneTo-append : (records : List SheetView) (xs ys : List Item) (a b c : ℕ) (text more : List ℕ)
-    → AloneTo records a xs text b → AloneTo records b ys more c → AloneTo records a (xs ++ ys) (text ++ more) c
-AloneTo-append records [] ys a b c text more p q = rw p.0 (rw p.1 at q)
-AloneTo-append records (item ∷ xs) ys a b c text more p q = record {
+pub Answers-append : (alone : Bool) (records : List RecordView) (xs ys : List Item) (a b c : ℕ)
+    (text more : List ℕ) (l m : ℕ)
+    → Answers alone records a xs text b l → Answers alone records b ys more c m
+    → Answers alone records a (xs ++ ys) (text ++ more) c (l + m)
+Answers-append alone records [] ys a b c text more l m p q = rw p.0 (rw p.2 (rw p.1 at q))
+Answers-append alone records (item ∷ xs) ys a b c text more l m p q = record {
   reply = p.reply;
   rest = p.rest ++ more;
   next = p.next;
+  loaded = p.loaded;
+  others = p.others + m;
   step = p.step;
   joins = ap (λ t. t ++ more) p.joins ∙ append_assoc p.reply p.rest more;
-  on = AloneTo-append records xs ys p.next b c p.rest more p.on q;
+  sum = omega (arith, p.sum);
+  on = Answers-append alone records xs ys p.next b c p.rest more p.others m p.on q;
 }
 
--- a place that holds an element is within the list
-slice_get-within : (xs : List SheetView) (i : ℕ) (x : SheetView) → slice_get xs i ≡ Some x → i < length xs
-slice_get-within [] i x is = absurd (cc)
-slice_get-within (y ∷ xs) zero x is = omega arith
-slice_get-within (y ∷ xs) (suc i) x is = omega (arith, slice_get-within xs i x is)
-
 -- records that are added behind change no place before
-slice_get-grown : (xs more : List SheetView) (i : ℕ) → i < length xs → slice_get (xs ++ more) i ≡ slice_get xs i
+slice_get-grown : (xs more : List RecordView) (i : ℕ) → i < length xs → slice_get (xs ++ more) i ≡ slice_get xs i
 slice_get-grown [] more i low = absurd (omega arith)
 slice_get-grown (y ∷ xs) more zero low = refl
 slice_get-grown (y ∷ xs) more (suc i) low = slice_get-grown xs more i (omega arith)
 
--- the first place of what was added
-slice_get-seam : (xs : List SheetView) (x : SheetView) (ys : List SheetView)
-    → slice_get (xs ++ x ∷ ys) (length xs) ≡ Some x
-slice_get-seam [] x ys = refl
-slice_get-seam (a ∷ xs) x ys = slice_get-seam xs x ys
-
 -- the record of a version stays where records are added behind
-record_at-grown : (records more : List SheetView) (version : ℕ) → version ≤ length records
+record_at-grown : (records more : List RecordView) (version : ℕ) → version ≤ length records
     → record_at (records ++ more) version ≡ record_at records version
 record_at-grown records more zero low = refl
 record_at-grown records more (suc version) low = slice_get-grown records more version (omega arith)
 
--- what a step needs of the records: it stays within them
-pub Step-within : (records : List SheetView) (seen : ℕ) (item : Item) (reply : List ℕ) (next : ℕ)
-    → Step records seen item reply next → seen ≤ length records → next ≤ length records
-Step-within records seen (Ask line) reply next step low = omega (arith, step.0)
-Step-within records seen Bye reply next step low = omega (arith, step.0)
-Step-within records seen (Load text whole) reply next step low = of_load (verdict_of text whole) step
-  where
-    of_load : (verdict : Result SheetView TextFault) → LoadStep records seen verdict reply next → next ≤ length records
-    of_load (Err fault) step = omega (arith, step.0)
-    of_load (Ok sheet) (inl step) = omega (arith, step.0, slice_get-within records seen sheet step.1)
-    of_load (Ok sheet) (inr (inl step)) = omega (arith, step.0)
-    of_load (Ok sheet) (inr (inr step)) = omega (arith, step.0)
+module _ (alone : Bool) (records more : List RecordView) (few : length (records ++ more) ≤ 256) where
+  -- a reply that publishes nothing stays right where records are added behind
+  IsTold-grown : (seen next loads : ℕ) (P Q : Type 0) → IsTold alone records seen next loads P
+      → (next ≤ length records → P → Q) → IsTold alone (records ++ more) seen next loads Q
+  IsTold-grown seen next loads P Q told on = record {
+    stays = record {
+      later = told.stays.later;
+      there = omega (arith, told.stays.there, length-append records more);
+      same = told.stays.same;
+    };
+    told = on told.stays.there told.told;
+    counted = told.counted;
+  }
 
--- a step stays right where records are added behind
-Step-grown : (records more : List SheetView) (seen : ℕ) (item : Item) (reply : List ℕ) (next : ℕ)
-    → Step records seen item reply next → seen ≤ length records → Step (records ++ more) seen item reply next
-Step-grown records more seen (Ask line) reply next step low = (
-  step.0,
-  subst (λ (sheet : Option SheetView). IsReply sheet seen line reply)
-      (sym (record_at-grown records more seen low)) step.1,
-)
-Step-grown records more seen Bye reply next step low = step
-Step-grown records more seen (Load text whole) reply next step low = of_load (verdict_of text whole) step
-  where
-    of_load : (verdict : Result SheetView TextFault) → LoadStep records seen verdict reply next
-        → LoadStep (records ++ more) seen verdict reply next
-    of_load (Err fault) step = step
-    of_load (Ok sheet) (inl step) =
-        inl (step.0, slice_get-grown records more seen (slice_get-within records seen sheet step.1) ∙ step.1, step.2)
-    of_load (Ok sheet) (inr step) = inr step
+  -- so does the reply to a LOAD
+  LoadStep-grown : (seen : ℕ) (verdict : Result SheetView TextFault) (reply : List ℕ) (next loads : ℕ)
+      → LoadStep alone records seen verdict reply next loads
+      → LoadStep alone (records ++ more) seen verdict reply next loads
+  LoadStep-grown seen (Err fault) reply next loads step =
+      IsTold-grown seen next loads _ _ step (λ there told. told)
+  LoadStep-grown seen (Ok sheet) reply next loads (inl step) = inl (record {
+    later = step.later;
+    made = step.made;
+    place = record_at-grown records more next step.there ∙ step.place;
+    shows = step.shows;
+    there = omega (arith, step.there, length-append records more);
+    text = step.text;
+    same = step.same;
+    counted = step.counted;
+  })
+  LoadStep-grown seen (Ok sheet) reply next loads (inr (inl step)) = inr (inl (record {
+    full = omega (arith, step.full, few, length-append records more);
+    all = step.all;
+    later = step.later;
+    text = step.text;
+    same = step.same;
+    counted = step.counted;
+  }))
+  LoadStep-grown seen (Ok sheet) reply next loads (inr (inr step)) =
+      inr (inr (IsTold-grown seen next loads _ _ step (λ there told. told)))
 
--- and so do the steps of a stretch of items
-AloneTo-grown : (records more : List SheetView) (seen : ℕ) (items : List Item) (text : List ℕ) (last : ℕ)
-    → AloneTo records seen items text last → seen ≤ length records → AloneTo (records ++ more) seen items text last
-AloneTo-grown records more seen [] text last p low = p
-AloneTo-grown records more seen (item ∷ items) text last p low = record {
-  reply = p.reply;
-  rest = p.rest;
-  next = p.next;
-  step = Step-grown records more seen item p.reply p.next p.step low;
-  joins = p.joins;
-  on = AloneTo-grown records more p.next items p.rest last p.on (Step-within records seen item p.reply p.next p.step
-      low);
-}
+  -- and that to each item
+  Step-grown : (seen : ℕ) (item : Item) (reply : List ℕ) (next loads : ℕ)
+      → Step alone records seen item reply next loads → Step alone (records ++ more) seen item reply next loads
+  Step-grown seen (Ask line) reply next loads step =
+      IsTold-grown seen next loads _ _ step
+      (λ there told. subst (λ (r : Option RecordView). IsReply r next line reply)
+      (sym (record_at-grown records more next there)) told)
+  Step-grown seen Bye reply next loads step = IsTold-grown seen next loads _ _ step (λ there told. told)
+  Step-grown seen (Load text whole) reply next loads step =
+      LoadStep-grown seen (verdict_of text whole) reply next loads step
 
--- replies stay right while records are added
-pub AloneTo-grow : (records all : List SheetView) (seen : ℕ) (items : List Item) (text : List ℕ) (last : ℕ)
-    → Grows records all → AloneTo records seen items text last → seen ≤ length records
-    → AloneTo all seen items text last
-AloneTo-grow records all seen items text last grows p low =
-    subst (λ (v : List SheetView). AloneTo v seen items text last) (sym grows.1)
-    (AloneTo-grown records grows.0 seen items text last p low)
+  -- and those to a stretch of items
+  Answers-grown : (seen : ℕ) (items : List Item) (text : List ℕ) (last loads : ℕ)
+      → Answers alone records seen items text last loads → Answers alone (records ++ more) seen items text last loads
+  Answers-grown seen [] text last loads p = p
+  Answers-grown seen (item ∷ items) text last loads p = record {
+    reply = p.reply;
+    rest = p.rest;
+    next = p.next;
+    loaded = p.loaded;
+    others = p.others;
+    step = Step-grown seen item p.reply p.next p.loaded p.step;
+    joins = p.joins;
+    sum = p.sum;
+    on = Answers-grown p.next items p.rest last p.others p.on;
+  }
+
+-- answers stay right while the list grows, since it never holds more than 256
+pub Answers-grow : (alone : Bool) (records all : List RecordView) (seen : ℕ) (items : List Item) (text : List ℕ)
+    (last loads : ℕ) → Grows records all → length all ≤ 256 → Answers alone records seen items text last loads
+    → Answers alone all seen items text last loads
+Answers-grow alone records all seen items text last loads grows few p =
+    let few' : length (records ++ grows.0) ≤ 256 = subst (λ (v : List RecordView). length v ≤ 256) grows.1 few in
+    subst (λ (v : List RecordView). Answers alone v seen items text last loads) (sym grows.1)
+    (Answers-grown alone records grows.0 few' seen items text last loads p)
 
 -- records are added to records that were added
-pub Grows-trans : (a b c : List SheetView) → Grows a b → Grows b c → Grows a c
-Grows-trans a b c p q = (p.0 ++ q.0, q.1 ∙ ap (λ v. v ++ q.0) p.1 ∙ append_assoc a p.0 q.0)
+pub Grows-trans : (a b c : List RecordView) → Grows a b → Grows b c → Grows a c
+Grows-trans a b c p q = (p.0 ++ q.0, q.1 ∙ ap (λ (v : List RecordView). v ++ q.0) p.1 ∙ append_assoc a p.0 q.0)
 
 -- records that are added make the list no shorter
-pub Grows-length : (a b : List SheetView) → Grows a b → length a ≤ length b
+pub Grows-length : (a b : List RecordView) → Grows a b → length a ≤ length b
 Grows-length a b p = omega (arith, ap length p.1, length-append a p.0)
 
--- what is answered goes on by what a line gives
-pub Alone-on : (records after : List SheetView) (done items : List Item) (text out : List ℕ)
-    → Alone records 0 done text → Gives records items out after → Alone after 0 (done ++ items) (text ++ out)
-Alone-on records after done items text out p gives =
-    AloneTo-append after done items 0 (length records) (length after) text out
-    (AloneTo-grow records after 0 done text (length records) gives.0 p (omega arith)) gives.1
-
 -- no record is added
-pub grows_none : (records : List SheetView) → Grows records records
+pub grows_none : (records : List RecordView) → Grows records records
 grows_none records = ([], sym (append-nil records))
 
--- an item whose step leads from these records to those
-pub Gives-one : (old new : List SheetView) (item : Item) (reply : List ℕ)
-    → Grows old new → Step new (length old) item reply (length new) → Gives old (item ∷ []) reply new
-Gives-one old new item reply grows step = (
-  grows,
-  record {
-    reply = reply;
-    rest = [];
-    next = length new;
-    step = step;
-    joins = sym (append-nil reply);
-    on = (refl, refl);
-  },
-)
+-- two looks, one after the other
+pub Looks-trans : (alone : Bool) (a b c : List RecordView) → Looks alone a b → Looks alone b c → Looks alone a c
+Looks-trans alone a b c p q = record {
+  grows = Grows-trans a b c p.grows q.grows;
+  still = λ only. q.still only ∙ p.still only;
+}
 
--- an item that publishes nothing
-pub Gives-same : (records : List SheetView) (item : Item) (reply : List ℕ)
-    → Step records (length records) item reply (length records) → Gives records (item ∷ []) reply records
-Gives-same records item reply step = Gives-one records records item reply (grows_none records) step
-
--- no item
-pub Gives-none : (records : List SheetView) → Gives records [] [] records
-Gives-none records = (grows_none records, (refl, refl))
-
--- the place of a record that is added
-pub slice_get-added : (records : List SheetView) (sheet : SheetView)
-    → slice_get (records ++ sheet ∷ []) (length records) ≡ Some sheet
-slice_get-added records sheet = slice_get-seam records sheet []
+-- what is served goes on by what a line gives
+pub IsServed-on : (alone : Bool) (seen0 : List RecordView) (own0 : ℕ) (records after : List RecordView) (own own2 : ℕ)
+    (done items : List Item) (text out : List ℕ)
+    → IsServed alone seen0 own0 records own done text → Gives alone records own items out after own2
+    → IsServed alone seen0 own0 after own2 (done ++ items) (text ++ out)
+IsServed-on alone seen0 own0 records after own own2 done items text out p gives =
+    let a = p.answers in
+    let b = gives.leads.on a.last a.reached in record {
+      loads = p.loads + gives.loads;
+      grows = Grows-trans seen0 records after p.grows gives.leads.grows;
+      counted = omega (arith, p.counted, gives.counted);
+      answers = record {
+        last = b.last;
+        reached = b.reached;
+        holds = Answers-append alone after done items (length seen0) a.last b.last text out p.loads gives.loads
+            (Answers-grow alone records after (length seen0) done text a.last p.loads gives.leads.grows
+            gives.leads.few a.holds) b.holds;
+      };
+    }
 
 -- two stretches of items that each lead from records to more records
-pub Gives-join : (records mid after : List SheetView) (xs ys : List Item) (out more : List ℕ)
-    → Gives records xs out mid → Gives mid ys more after → Gives records (xs ++ ys) (out ++ more) after
-Gives-join records mid after xs ys out more p q = (
-  Grows-trans records mid after p.0 q.0,
-  AloneTo-append after xs ys (length records) (length mid) (length after) out more
-      (AloneTo-grow mid after (length records) xs out (length mid) q.0 p.1 (Grows-length records mid p.0)) q.1,
-)
+pub Gives-join : (alone : Bool) (records mid after : List RecordView) (own own1 own2 : ℕ) (xs ys : List Item)
+    (out more : List ℕ)
+    → Gives alone records own xs out mid own1 → Gives alone mid own1 ys more after own2
+    → Gives alone records own (xs ++ ys) (out ++ more) after own2
+Gives-join alone records mid after own own1 own2 xs ys out more p q = record {
+  loads = p.loads + q.loads;
+  counted = omega (arith, p.counted, q.counted);
+  leads = record {
+    grows = Grows-trans records mid after p.leads.grows q.leads.grows;
+    few = q.leads.few;
+    on = λ seen reached.
+        let a = p.leads.on seen reached in
+        let b = q.leads.on a.last a.reached in record {
+          last = b.last;
+          reached = b.reached;
+          holds = Answers-append alone after xs ys seen a.last b.last out more p.loads q.loads
+              (Answers-grow alone mid after seen xs out a.last p.loads q.leads.grows q.leads.few a.holds) b.holds;
+        };
+  };
+}
+
+-- nothing was served yet
+pub serves_none : (alone : Bool) (records : List RecordView) (own : ℕ) → IsServed alone records own records own [] []
+serves_none alone records own = record {
+  loads = 0;
+  grows = grows_none records;
+  counted = omega arith;
+  answers = record {
+    last = length records;
+    reached = record { there = omega arith; last = λ only. refl };
+    holds = (refl, refl, refl);
+  };
+}
+
+module _ (alone : Bool) (old new : List RecordView) (own own2 : ℕ) (few : length new ≤ 256)
+    (looks : Looks alone old new) (kept : own2 ≡ own) where
+  -- the version of a look isn't older than what was told before
+  stays : (seen : ℕ) → IsReached alone old seen → Stays alone new seen (length new)
+  stays seen reached = record {
+    later = omega (arith, reached.there, Grows-length old new looks.grows);
+    there = omega arith;
+    same = λ only. ap length (looks.still only) ∙ sym (reached.last only);
+  }
+
+  -- the version of a look may be told
+  reached_all : IsReached alone new (length new)
+  reached_all = record { there = omega arith; last = λ only. refl }
+
+  -- a look gives no item
+  pub Gives-none : Gives alone old own [] [] new own2
+  Gives-none = record {
+    loads = 0;
+    counted = omega (arith, kept);
+    leads = record {
+      grows = looks.grows;
+      few = few;
+      on = λ seen reached. record {
+        last = seen;
+        reached = record {
+          there = omega (arith, reached.there, Grows-length old new looks.grows);
+          last = λ only. reached.last only ∙ sym (ap length (looks.still only));
+        };
+        holds = (refl, refl, refl);
+      };
+    };
+  }
+
+  -- a look leads to its version
+  pub look_leads : (P : ℕ → ℕ → Type 0) → ((seen : ℕ) → Stays alone new seen (length new) → P seen (length new))
+      → Leads alone old new P
+  look_leads P holds = record {
+    grows = looks.grows;
+    few = few;
+    on = λ seen reached. record {
+      last = length new;
+      reached = reached_all;
+      holds = holds seen (stays seen reached);
+    };
+  }
+
+-- an item whose steps lead from records to records
+pub Gives-one : (alone : Bool) (old new : List RecordView) (own own2 : ℕ) (item : Item) (reply : List ℕ) (loads : ℕ)
+    → own2 ≡ own + loads → Leads alone old new (λ seen next. Step alone new seen item reply next loads)
+    → Gives alone old own (item ∷ []) reply new own2
+Gives-one alone old new own own2 item reply loads counted leads = record {
+  loads = loads;
+  counted = counted;
+  leads = record {
+    grows = leads.grows;
+    few = leads.few;
+    on = λ seen reached. let a = leads.on seen reached in record {
+      last = a.last;
+      reached = a.reached;
+      holds = record {
+        reply = reply;
+        rest = [];
+        next = a.last;
+        loaded = loads;
+        others = 0;
+        step = a.holds;
+        joins = sym (append-nil reply);
+        sum = omega arith;
+        on = (refl, refl, refl);
+      };
+    };
+  };
+}

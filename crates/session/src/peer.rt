@@ -28,6 +28,7 @@ pub trait Peer: Source + Sink {
 }
 
 /// A peer over two objects.
+#[derive(Drop)]
 pub struct Pair<'a, S: Source, K: Sink> {
     /// What it reads from.
     pub source: &'a mut S,

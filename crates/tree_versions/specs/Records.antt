@@ -1,7 +1,7 @@
 -- Records: networks that were published, each with the run that made its tree.
-use Rattle.std.specs.Prelude.{◌≡◌, ℕ, zero, suc, List, ◌++◌, slice_get, None}
+use Rattle.std.specs.Prelude.{◌≡◌, ℕ, zero, suc, List, ◌++◌, slice_get, All, None}
 use Rattle.std.specs.declared.option.Option.{Option}
-use Rattle.network_text.specs.Sheets.{SheetView, IsSheet}
+use Rattle.network_text.specs.Sheets.{SheetView}
 use Rattle.tree_state.specs.History.{IsComplete}
 use Rattle.tree_state.specs.declared.entry.Entry.{Entry}
 
@@ -10,10 +10,9 @@ pub record RecordView : Type 0 where
   pub sheet : SheetView
   pub history : List Entry
 
--- The names and the network are a sheet, and the history is complete for that network.
-pub record IsRecord (sheet : SheetView) (history : List Entry) : Type 0 where
-  pub named : IsSheet sheet.names sheet.net
-  pub complete : IsComplete sheet.net history
+-- Each record holds a complete history of its own network.
+abbrev pub AreFinished : List RecordView → Type 0
+AreFinished records = All (λ (r : RecordView). IsComplete r.sheet.net r.history) records
 
 -- The record of a version: they are counted from 1, and version 0 has none.
 abbrev pub record_at : List RecordView → ℕ → Option RecordView

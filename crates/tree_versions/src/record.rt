@@ -1,6 +1,7 @@
 //! A network that was published.
 ghost use Rattle.std.specs.Prelude.{◌≡◌, IfOk};
 ghost use Rattle.std.specs.Arc.{arc_value};
+ghost use Rattle.tree_state.specs.History.{IsComplete};
 
 use cut_model::NoMemory;
 use network_text::Sheet;
@@ -18,7 +19,8 @@ pub struct Record {
 }
 
 impl Model for Record {
-    ghost use Rattle.tree_versions.specs.Records.{RecordView, IsRecord};
+    ghost use Rattle.std.specs.Prelude.{◌≡◌};
+    ghost use Rattle.tree_versions.specs.Records.{RecordView};
 
     ghost Value = { RecordView };
 
@@ -52,7 +54,9 @@ impl Record {
     pub fn finished(&self) -> &Finished
         ensures net { result.now.net ≡ self.now.sheet.net }
         ensures history { result.now.history ≡ self.now.history }
+        ensures complete { IsComplete self.now.sheet.net self.now.history }
     {
+        self.finished.net();
         &self.finished
     }
 }

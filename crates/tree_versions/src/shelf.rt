@@ -1,7 +1,7 @@
 //! What a shelf of records is.
 ghost use Rattle.std.specs.Prelude.{◌≡◌, ℕ, ◌<◌, ◌≤◌, List, Bool, Some, length};
 ghost use Rattle.std.specs.Arc.{arc_value};
-ghost use Rattle.tree_versions.specs.Records.{RecordView, record_at as at_version};
+ghost use Rattle.tree_versions.specs.Records.{AreFinished, RecordView, record_at as at_version};
 ghost use Rattle.tree_versions.specs.Shelves.{Looks, Publishes};
 
 use crate::Record;
@@ -33,6 +33,9 @@ pub trait Shelf {
 
     /// At most 256 records are seen.
     ghost few: { (shelf : Self) → length (seen shelf) ≤ 256 };
+
+    /// Each record that is seen holds a complete run over its own network.
+    ghost runs: { (shelf : Self) → AreFinished (seen shelf) };
 
     /// Sees what others have published, and tells how many records are seen.
     fn look(&mut self) -> u32

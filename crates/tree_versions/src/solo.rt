@@ -1,5 +1,7 @@
 //! A shelf that nobody else has.
-ghost use Rattle.std.specs.Prelude.{◌≡◌, ◌≤◌, [], IfOk, vec_capacity, vec_len};
+ghost use Rattle.std.specs.Prelude.{◌≡◌, ◌≤◌, [], IfOk, length, vec_capacity};
+ghost use Rattle.tree_versions.specs.Facts.{finished_is_fact};
+ghost use Rattle.tree_versions.specs.Records.{AreFinished};
 ghost use Rattle.tree_versions.specs.Solo.{views_of};
 
 use crate::{PublishFault, Record, Shelf};
@@ -14,7 +16,8 @@ const MOST_RECORDS: usize = 256;
 #[derive(Drop)]
 pub struct SoloShelf {
     records: Vec<Arc<Record>>,
-    ghost few: { vec_len records ≤ 256 },
+    ghost few: { length records.items ≤ 256 },
+    ghost runs: { AreFinished (views_of records.items) } by { finished_is_fact (views_of records.items) },
     ghost room: { 256 ≤ vec_capacity records },
 }
 
@@ -42,13 +45,17 @@ impl SoloShelf {
 
 impl Shelf for SoloShelf {
     ghost use Rattle.std.specs.Prelude.{length, true};
-    ghost use Rattle.tree_versions.specs.Solo.{views_of};
+    ghost use Rattle.tree_versions.specs.Solo.{few_views, views_of};
 
     ghost seen = { λ shelf. views_of shelf.records.items };
 
     ghost own = { λ shelf. length (views_of shelf.records.items) };
 
     ghost alone = { λ _. true };
+
+    ghost runs = { λ shelf. shelf.runs };
+
+    ghost few = { λ shelf. few_views shelf.records.items shelf.few };
 
     fn look(&mut self) -> u32 {
         self.records.len() as u32
@@ -62,6 +69,7 @@ impl Shelf for SoloShelf {
         if self.records.len() == MOST_RECORDS {
             return Err(PublishFault::Full);
         }
+        new.finished();
         self.records.push_reserved(new);
         Ok(self.records.len() as u32)
     }
