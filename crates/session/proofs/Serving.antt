@@ -3,18 +3,22 @@ use Rattle.std.proofs.Common.{◌≡◌, ℕ, ◌≤◌, List, [], ◌∷◌, �
 use Rattle.std.proofs.Common.{ap, ◌∙◌, arith, append_assoc, if◌then◌else◌}
 use Rattle.std.proofs.lemmas.List.{append-nil}
 use Rattle.std.specs.declared.option.Option.{Option}
-use Rattle.network_text.specs.Sheets.{SheetView}
-use Rattle.planner_server.specs.Modes.{next_text, gives, Gives, Serves, IsClosing, IsQuiet, IsByeLine}
-use Rattle.planner_server.proofs.Answering.{Alone-on, Gives-same, Gives-none}
-use Rattle.query_lang.specs.Replies.{bye_text}
+use Rattle.session.specs.Modes.{next_text, gives, Gives, Serves, IsQuiet, IsByeLine}
+use Rattle.session.proofs.Answering.{IsServed-on, serves_none}
 use Rattle.text_forms.specs.Lines.{NoFeed, front_of, fronts_of}
 use Rattle.text_forms.specs.Words.{is_passed, is_load, is_end, is_bye}
 use Rattle.text_forms.specs.Items.{Item, Ask, Load, Bye, NoBye, items_from, items_on, items_of}
 use Rattle.text_forms.proofs.LinesOf.{fronts_of-line, fronts_of-open, fronts_of-last}
+use Rattle.tree_versions.specs.Records.{RecordView}
 
 -- nothing has come yet
-pub begin : Serves [] [] [] None
-begin = record { done = []; quiet = tt; items = λ ended more. refl; answered = (refl, refl) }
+pub begin : (alone : Bool) (records : List RecordView) (own : ℕ) → Serves alone records own [] [] records own None
+begin alone records own = record {
+  done = [];
+  quiet = tt;
+  items = λ ended more. refl;
+  answered = serves_none alone records own;
+}
 
 -- the items of a line that is no BYE, and of the lines behind it
 items_from-line : (ended : Bool) (text : Option (List (List ℕ))) (line : List ℕ) (lines : List (List ℕ))
@@ -94,18 +98,8 @@ pub ends-one : (text : Option (List (List ℕ))) → length (items_from true tex
 ends-one None = omega arith
 ends-one (Some text) = omega arith
 
--- the item that the end of the input makes whole is answered by what is owed
-pub closes : (records : List SheetView) (text : Option (List (List ℕ)))
-    (owed : List ℕ) → IsClosing records text owed → Gives records (items_from true text []) owed records
-closes records None owed is = rw is (Gives-none records)
-closes records (Some text) owed is = Gives-same records (Load text false) owed is
-
--- a BYE is answered
-pub bye-gives : (records : List SheetView) → Gives records (Bye ∷ []) (bye_text (length records)) records
-bye-gives records = Gives-same records Bye (bye_text (length records)) (refl, refl)
-
-module _ (bytes text : List ℕ) (records : List SheetView) (open_text : Option (List (List ℕ)))
-    (s : Serves bytes text records open_text) where
+module _ (alone : Bool) (seen0 : List RecordView) (own0 : ℕ) (bytes text : List ℕ) (records : List RecordView)
+    (own : ℕ) (open_text : Option (List (List ℕ))) (s : Serves alone seen0 own0 bytes text records own open_text) where
   -- the items behind a whole line
   pub line_items : (ended : Bool) (line more : List ℕ) → NoFeed line → IsQuiet open_text (front_of line)
       → items_of ended ((bytes ++ (line ++ 10 ∷ [])) ++ more)
@@ -119,14 +113,16 @@ module _ (bytes text : List ℕ) (records : List SheetView) (open_text : Option 
       ∙ sym (append_assoc s.done (gives open_text front) (items_on ended (next_text open_text front) more))
 
   -- the session goes on by a whole line that is no BYE
-  pub goes_on : (after : List SheetView) (line out : List ℕ) → NoFeed line → IsQuiet open_text (front_of line)
-      → Gives records (gives open_text (front_of line)) out after
-      → Serves (bytes ++ (line ++ 10 ∷ [])) (text ++ out) after (next_text open_text (front_of line))
-  goes_on after line out clean quiet given = record {
+  pub goes_on : (after : List RecordView) (own2 : ℕ) (line out : List ℕ) → NoFeed line
+      → IsQuiet open_text (front_of line) → Gives alone records own (gives open_text (front_of line)) out after own2
+      → Serves alone seen0 own0 (bytes ++ (line ++ 10 ∷ [])) (text ++ out) after own2
+      (next_text open_text (front_of line))
+  goes_on after own2 line out clean quiet given = record {
     done = s.done ++ gives open_text (front_of line);
     quiet = NoBye-append s.done (gives open_text (front_of line)) s.quiet (gives-quiet open_text (front_of line));
     items = λ ended more. line_items ended line more clean quiet;
-    answered = Alone-on records after s.done (gives open_text (front_of line)) text out s.answered given;
+    answered = IsServed-on alone seen0 own0 records after own own2 s.done (gives open_text (front_of line)) text out
+        s.answered given;
   }
 
   -- the items of bytes that end behind a line without a line feed
@@ -154,7 +150,8 @@ module _ (bytes text : List ℕ) (records : List SheetView) (open_text : Option 
       nothing None = refl
       nothing (Some t) = refl
 
-module _ (bytes text : List ℕ) (records : List SheetView) (s : Serves bytes text records None) where
+module _ (alone : Bool) (seen0 : List RecordView) (own0 : ℕ) (bytes text : List ℕ) (records : List RecordView)
+    (own : ℕ) (s : Serves alone seen0 own0 bytes text records own None) where
   -- the items that a whole line BYE ends
   pub bye_items : (ended : Bool) (line more : List ℕ) → NoFeed line → IsByeLine (front_of line)
       → items_of ended (bytes ++ (line ++ 10 ∷ more)) ≡ s.done ++ Bye ∷ []

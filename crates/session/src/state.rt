@@ -343,12 +343,12 @@ impl State {
     }
 
     /// Publishes a record, and makes the reply by its version.
-    fn publish_record<H: Shelf>(&mut self, shelf: &mut H, record: Arc<Record>)
-        ensures loads { Loads (H.alone shelf.old) (H.seen shelf.old) (H.own shelf.old) (Ok (arc_value record).sheet)
+    fn publish_record<H: Shelf>(&mut self, shelf: &mut H, new: Arc<Record>)
+        ensures loads { Loads (H.alone shelf.old) (H.seen shelf.old) (H.own shelf.old) (Ok (arc_value new).sheet)
             self.new.reply (H.seen shelf.new) (H.own shelf.new) }
         ensures alone { H.alone shelf.new ≡ H.alone shelf.old }
     {
-        match shelf.publish(record) {
+        match shelf.publish(new) {
             Ok(version) => self.tell_loaded(shelf, version),
             Err(PublishFault::Full) => self.refuse(MOST_RECORDS, SHELF_FULL, None),
             Err(PublishFault::NoMemory) => self.refuse_load(shelf, OUT_OF_MEMORY, None),
