@@ -1,2 +1,3 @@
 pub mod Commanding
+pub mod Standing
 pub mod Deciding

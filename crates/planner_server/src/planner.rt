@@ -3,9 +3,9 @@ ghost use Rattle.std.specs.Prelude.{◌≡◌, ℕ, ◌+◌, ◌^◌, ◌≤◌,
 ghost use Rattle.std.specs.Prelude.{length, map, IfOk, IsTrue};
 ghost use Rattle.std.specs.String.{string_bytes};
 ghost use Rattle.planner_server.specs.Commands.{IsPlan};
-ghost use Rattle.planner_server.specs.Runs.{AreFinished, Breaks, EndsLong, EndsShort, EndsWhole};
-ghost use Rattle.session.specs.Turns.{EndsAs};
+ghost use Rattle.planner_server.specs.Runs.{Breaks, EndsLong, EndsShort, EndsWhole, RunEndsAs};
 ghost use Rattle.text_forms.specs.Items.{NoBye, items_of};
+ghost use Rattle.tree_versions.specs.Records.{AreFinished};
 ghost use Rattle.tree_versions.specs.Solo.{views_of};
 ghost use Rattle.wires.specs.Causes.{Rose};
 
@@ -80,8 +80,10 @@ fn serve_both<S: Source, K: Sink>(
     sink: &mut K,
 ) -> SessionEnd
     requires none { views_of shelf.old.records.items ≡ [] }
-    ensures ends { EndsAs result (S.left source.old) (K.written sink.old) (S.left source.new) (S.ended source.new)
-        (K.written sink.new) true [] 0 (views_of shelf.new.records.items) (length (views_of shelf.new.records.items)) }
+    ensures ends { RunEndsAs result (S.left source.old) (K.written sink.old) (S.left source.new) (S.ended source.new)
+        (K.written sink.new) (views_of shelf.new.records.items) }
+    ensures few { length (views_of shelf.new.records.items) ≤ 256 }
+    ensures runs { AreFinished (views_of shelf.new.records.items) }
     ensures read_fault { result ≡ SessionEnd.ReadFault → Rose (S.read_faults source.old) (S.read_faults source.new) }
     ensures write_fault { result ≡ SessionEnd.WriteFault → Rose (K.write_faults sink.old) (K.write_faults sink.new) }
     ensures reads { S.read_faults source.old ≤ S.read_faults source.new }

@@ -268,3 +268,9 @@ Gives-one alone old new own own2 item reply loads counted leads = record {
     };
   };
 }
+
+-- records on which nobody looked give no item
+pub Gives-still : (alone : Bool) (records : List RecordView) (own : ℕ) → length records ≤ 256
+    → Gives alone records own [] [] records own
+Gives-still alone records own few =
+    Gives-none alone records records own own few (record { grows = grows_none records; still = λ only. refl }) refl
