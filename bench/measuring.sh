@@ -15,16 +15,18 @@ compile() {
     "${CC:-cc}" -std=c11 -O2 -Wall -Wextra -o "$room/$1" "bench/$1.c"
 }
 
-# measured NAME WORD..: runs the command, and appends its seconds, kB and status to the file NAME.
+# measured NAME WORD..: runs the command, and appends its seconds, kB, status and seconds of processor
+# time to the file NAME.
 measured() {
     name=$1
     shift
     "$room/measure" "$@" 3>>"$room/$name" >/dev/null
 }
 
-# median_of NAME: the median of the seconds in the file NAME.
+# median_of NAME [FIELD]: the median of a field in the file NAME: 1 for seconds, as where none is
+# named, and 4 for those of processor time.
 median_of() {
-    cut -d ' ' -f 1 "$room/$1" | sort -n | sed -n "$(((rounds + 1) / 2))p"
+    cut -d ' ' -f "${2:-1}" "$room/$1" | sort -n | sed -n "$(((rounds + 1) / 2))p"
 }
 
 # peak_of NAME: the most memory in the file NAME, in kB.
@@ -46,11 +48,15 @@ compare() {
         measured "$input.theirs" "$@" <"$room/$input"
     done
     awk -v title="$title" -v yardstick="$yardstick" -v bytes="$(wc -c <"$room/$input")" \
-        -v ours="$(median_of "$input.ours")" -v theirs="$(median_of "$input.theirs")" \
+        -v ours="$(median_of "$input.ours" 1)" -v theirs="$(median_of "$input.theirs" 1)" \
+        -v our_work="$(median_of "$input.ours" 4)" -v their_work="$(median_of "$input.theirs" 4)" \
         -v peak="$(peak_of "$input.ours")" -v statuses="$(statuses_of "$input.ours")" 'BEGIN {
             printf "%s: %.0f MB/s (%.3f s), status %s\n", title, bytes / ours / 1e6, ours, statuses
             printf "    %s: %.0f MB/s (%.3f s); ours takes %.2f times as long\n",
                 yardstick, bytes / theirs / 1e6, theirs, ours / theirs
+            if (our_work > 0 && their_work > 0)
+                printf "    by processor time: %.0f and %.0f MB/s; ours takes %.2f times as long\n",
+                    bytes / our_work / 1e6, bytes / their_work / 1e6, our_work / their_work
             printf "    peak memory: %.1f MB\n", peak / 1e3
         }'
     rm "$room/$input"

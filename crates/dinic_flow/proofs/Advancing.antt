@@ -1,22 +1,23 @@
--- A router's cursor that moves on, and what the steps of that cost.
-use Rattle.std.proofs.Common.{◌≡◌, ◌≢◌, ℕ, ◌+◌, ◌-◌, ◌*◌, ◌/◌, ◌%◌, ◌<◌, ◌≤◌, true, false, suc, List, [], ◌∷◌, length, get_or, set, sum}
+-- A router's cursor that moves on.
+use Rattle.std.proofs.Common.{◌≡◌, ◌≢◌, ℕ, suc, ◌+◌, ◌-◌, ◌/◌, ◌%◌, ◌<◌, ◌≤◌, true, false}
+use Rattle.std.proofs.Common.{List, [], ◌∷◌, length, get_or, set, sum}
 use Rattle.std.specs.Prelude.{◌==◌}
 use Rattle.std.proofs.Common.{sym, ◌∙◌, ap, subst, arith, refl, inl, inr}
 use Rattle.std.proofs.lemmas.Bool.{cases_eq, cases_lt, eq-eqb, ne_eqb}
 use Rattle.std.proofs.lemmas.List.{length-set, get_or-set_same, get_or-set_other}
 use Rattle.std.proofs.lemmas.List.Sums.{sum_by-set, sum_by-cons}
-use Rattle.cut_model.specs.declared.network.Link.{Link}
 use Rattle.cut_model.specs.Net.{Net}
-use Rattle.residual_graph.specs.Arcs.{link_of, tail_in, head_in, tail_of, head_of, arc_count, twin}
+use Rattle.residual_graph.specs.Arcs.{tail_in, head_in, tail_of, head_of, arc_count, twin}
 use Rattle.residual_graph.specs.Places.{begin_of, place_at}
 use Rattle.residual_graph.specs.View.{ResidualView}
 use Rattle.residual_graph.proofs.ByPlace.{arc-between}
 use Rattle.dinic_flow.specs.Levels.{IsLevelled}
-use Rattle.dinic_flow.specs.Phases.{IsSpent, IsBlocked, HasCome, IsPhase, Sends, Costs}
+use Rattle.dinic_flow.specs.Phases.{IsSpent, IsBlocked, IsPhase, Sends}
 
 -- A cursor that is put elsewhere is there, and every other one where it was.
 cursor-moved : (cursor : List ℕ) (router v r : ℕ) → router < length cursor → get_or cursor router 0 ≤ v →
-    (get_or cursor r 0 ≤ get_or (set cursor router v) r 0) × (r ≢ router → get_or (set cursor router v) r 0 ≡ get_or cursor r 0)
+    (get_or cursor r 0 ≤ get_or (set cursor router v) r 0)
+    × (r ≢ router → get_or (set cursor router v) r 0 ≡ get_or cursor r 0)
 cursor-moved cursor router v r within later = elim (cases_eq r router) [
   | inl same ↦ (
     omega (
@@ -45,7 +46,8 @@ blocked-moved view least t label old new arc stays was leads = elim (was leads) 
 pub phase-moved : (view : ResidualView) (least t : ℕ) (label cursor : List ℕ) (router v : ℕ) →
     IsPhase view least t label cursor → router < view.net.routers → router ≢ t →
     get_or cursor router 0 ≤ v → v ≤ begin_of view.net (router + 1) →
-    ((at : ℕ) → get_or cursor router 0 ≤ at → at < v → IsBlocked view least t label cursor (place_at view.net at).arc) →
+    ((at : ℕ) → get_or cursor router 0 ≤ at → at < v →
+    IsBlocked view least t label cursor (place_at view.net at).arc) →
     IsPhase view least t label (set cursor router v)
 phase-moved view least t label cursor router v old small apart later most passed =
     let within : router < length cursor = omega (arith, old.come.size) in
@@ -100,34 +102,11 @@ sends-moved before after old mid label router t x v sent within later = record {
   keeps = λ r low apart. (cursor-moved mid router v r within later).1 apart ∙ sent.keeps r low apart;
 }
 
--- ---- what it costs
-
 -- A cursor that is put elsewhere changes the sum of all cursors by as much.
 pub sum-moved : (cursor : List ℕ) (router v from : ℕ) → router < length cursor → get_or cursor router 0 ≡ from →
     sum (set cursor router v) + from ≡ sum cursor + v
 sum-moved cursor router v from within is =
     ap (λ n. sum (set cursor router v) + n) (sym is) ∙ sum_by-set (λ x. x) cursor router v 0 within
-
--- The steps at one place more, with k levels above: two of its own, and those of the router that it leads to.
-pub pays-place : (k old mid new from at before between after : ℕ) →
-    between + 2 * (k * old) + 2 * (k * from) + 2 * from ≤ before + 2 * (k * mid) + 2 * (k * at) + 2 * at →
-    after + 2 * (k * mid) ≤ (between + 2) + 2 * (k * new) + 2 * k →
-    after + 2 * (k * old) + 2 * (k * from) + 2 * from ≤ before + 2 * (k * new) + 2 * (k * (at + 1)) + 2 * (at + 1)
-pays-place k old mid new from at before between after paid more = omega arith
-
--- The steps of all places that were passed, where the router's cursor is put behind them.
-pub pays-passed : (k old mid new from at before after : ℕ) → new + from ≡ mid + at →
-    after + 2 * (k * old) + 2 * (k * from) + 2 * from ≤ before + 2 * (k * mid) + 2 * (k * at) + 2 * at →
-    old ≤ mid →
-    after + 2 * ((k + 1) * old) ≤ before + 2 * ((k + 1) * new) + 2 * (k + 1)
-pays-passed k old mid new from at before after moved paid grows = omega (arith, ap (λ x. k * x) moved)
-
--- The same, where the last place wasn't passed.
-pub pays-last : (k old mid new from at before after : ℕ) → new + from ≡ mid + at →
-    after + 2 * (k * old) + 2 * (k * from) + 2 * from ≤ before + 2 * (k * mid) + 2 * (k * (at + 1)) + 2 * (at + 1) →
-    old ≤ mid →
-    after + 2 * ((k + 1) * old) ≤ before + 2 * ((k + 1) * new) + 2 * (k + 1)
-pays-last k old mid new from at before after moved paid grows = omega (arith, ap (λ x. k * x) moved)
 
 -- ---- t is never spent
 
@@ -151,8 +130,9 @@ twin-within : (net : Net) (arc : ℕ) → arc < arc_count net → twin arc < arc
 twin-within net arc within = omega (arith, (twin-ends net arc).1)
 
 -- A spent router that an arc goes to isn't t, whose cursor is at its first place.
-pub unspent : (view : ResidualView) (least t : ℕ) (label cursor : List ℕ) (arc : ℕ) → IsPhase view least t label cursor →
-    arc < arc_count view.net → IsSpent view.net cursor (head_of view.net arc) → head_of view.net arc ≢ t
+pub unspent : (view : ResidualView) (least t : ℕ) (label cursor : List ℕ) (arc : ℕ) →
+    IsPhase view least t label cursor → arc < arc_count view.net →
+    IsSpent view.net cursor (head_of view.net arc) → head_of view.net arc ≢ t
 unspent view least t label cursor arc phase within spent is =
     let net : Net = view.net in
     let other : ℕ = twin arc in

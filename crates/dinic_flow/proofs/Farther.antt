@@ -1,19 +1,19 @@
 -- Once s is spent, each walk to t has more arcs than the levels have steps.
-use Rattle.std.proofs.Common.{◌≡◌, ◌≢◌, ◌⊎◌, ℕ, zero, suc, ◌+◌, ◌-◌, ◌*◌, ◌<◌, ◌≤◌, List, [], ◌∷◌, length, get_or, sum}
-use Rattle.std.proofs.Common.{sym, ◌∙◌, ap, subst, arith, refl, inl, inr, mul-le-mul_left}
+use Rattle.std.proofs.Common.{◌≡◌, ◌≢◌, ℕ, zero, suc, ◌+◌, ◌-◌, ◌*◌, ◌<◌, ◌≤◌, List, [], ◌∷◌, length, get_or, sum}
+use Rattle.std.proofs.Common.{ap, subst, arith, refl, inl, inr, mul-le-mul_left}
 use Rattle.std.specs.Prelude.{ℤ, pos, ◌≤ℤ◌, ◌<ℤ◌}
 use Rattle.std.proofs.lemmas.Int.{ints}
 use Rattle.std.proofs.lemmas.Bool.{cases_lt, cases_eq, eq-eqb}
 use Rattle.std.proofs.lemmas.List.Sums.{sum_by-cons}
 use Rattle.cut_model.specs.Net.{Net}
 use Rattle.residual_graph.specs.declared.place.Place.{Place}
-use Rattle.residual_graph.specs.Arcs.{tail_of, head_of, arc_count}
+use Rattle.residual_graph.specs.Arcs.{arc_count}
 use Rattle.residual_graph.specs.Places.{begin_of, place_at}
 use Rattle.residual_graph.specs.View.{ResidualView, IsSound}
 use Rattle.residual_graph.proofs.ByPlace.{arc-between, begin-zero, begin-next, begin-end}
 use Rattle.residual_graph.proofs.Listed.{head_below}
 use Rattle.dinic_flow.specs.Levels.{OpenArc, Walk, IsFartherThan, height, IsLevelled}
-use Rattle.dinic_flow.specs.Phases.{Rises, IsSpent, IsBlocked, HasCome, IsPhase}
+use Rattle.dinic_flow.specs.Phases.{Rises, IsSpent, IsBlocked, IsPhase}
 use Rattle.dinic_flow.proofs.Relays.{height-label}
 
 -- An open arc rises by one level at most.
@@ -58,6 +58,7 @@ labelled view least t label levelled some (suc arcs) u (w, arc, rest) steep = el
   ))
 ]
 
+-- No arc is both closed and open.
 closed-open : (x : ℤ) (least : ℕ) → x <ℤ pos least → pos least ≤ℤ x → ⊥
 closed-open x least below above = omega (arith, ints, below, above)
 
@@ -72,7 +73,8 @@ stuck view least t label cursor phase some (suc arcs) u (w, arc, rest) steep apa
     let above = climbs view least t label phase.levelled some arcs w rest in
     let below = arc-rises view least t u w label phase.levelled arc in
     let steep_on : get_or label t 0 ≡ height mid label w + arcs = omega (arith, above, below, steep) in
-    let low = height-label mid label u (labelled view least t label phase.levelled some (suc arcs) u (w, arc, rest) steep) in
+    let low = height-label mid label u
+    (labelled view least t label phase.levelled some (suc arcs) u (w, arc, rest) steep) in
     let high = height-label mid label w (labelled view least t label phase.levelled some arcs w rest steep_on) in
     let on : get_or label w 0 ≡ get_or label u 0 + 1 = omega (arith, low, high, steep, steep_on) in
     let leads : Rises view.net label arc.arc = rw (arc.tail, arc.head) on in
@@ -86,7 +88,8 @@ stuck view least t label cursor phase some (suc arcs) u (w, arc, rest) steep apa
       | inl closed ↦ closed-open _ least closed arc.is_open
       | inr other ↦
           let next : (w ≢ t) × IsSpent view.net cursor w = rw arc.head at other in
-          let inside : w < view.net.routers = rw arc.head at (head_below view.net phase.sound.limits arc.arc arc.within) in
+          let inside : w < view.net.routers =
+          rw arc.head at (head_below view.net phase.sound.limits arc.arc arc.within) in
           stuck view least t label cursor phase some arcs w rest steep_on next.0 inside next.1
     ]
 
@@ -100,7 +103,9 @@ farther view least s t label cursor phase start apart small spent arcs walk =
     let above = climbs view least t label phase.levelled some arcs s walk in
     elim (cases_lt (get_or label t 0 - 1) arcs) [
       | inl less ↦ less
-      | inr short ↦ absurd (stuck view least t label cursor phase some arcs s walk (omega (arith, above, short, low)) apart small spent)
+      | inr short ↦
+          let steep : get_or label t 0 ≡ height phase.levelled.mid label s + arcs = omega (arith, above, short, low) in
+          absurd (stuck view least t label cursor phase some arcs s walk steep apart small spent)
     ]
 
 -- ---- where a phase begins, and what all of it costs
@@ -130,11 +135,17 @@ sums-step f [] [] from long low high = let same : from + 0 ≡ from = omega arit
 sums-step f [] (y ∷ ys) from long low high = absurd (omega arith)
 sums-step f (x ∷ xs) [] from long low high = absurd (omega arith)
 sums-step f (x ∷ xs) (y ∷ ys) from long low high =
-    let first : f from ≤ x = let same : from + 0 ≡ from = omega arith in subst (λ (n : ℕ). f n ≤ x) same (low 0 (omega arith)) in
-    let last : y ≤ f (from + 1) = let same : from + 0 + 1 ≡ from + 1 = omega arith in subst (λ (n : ℕ). y ≤ f n) same (high 0 (omega arith)) in
+    let at : from + 0 ≡ from = omega arith in
+    let first : f from ≤ x = subst (λ (n : ℕ). f n ≤ x) at (low 0 (omega arith)) in
+    let at_next : from + 0 + 1 ≡ from + 1 = omega arith in
+    let last : y ≤ f (from + 1) = subst (λ (n : ℕ). y ≤ f n) at_next (high 0 (omega arith)) in
     let rest = sums-step f xs ys (from + 1) (omega arith)
-    (λ i within. let same : from + suc i ≡ from + 1 + i = omega arith in subst (λ (n : ℕ). f n ≤ get_or xs i 0) same (low (suc i) (omega arith)))
-    (λ i within. let same : from + suc i + 1 ≡ from + 1 + i + 1 = omega arith in subst (λ (n : ℕ). get_or ys i 0 ≤ f n) same (high (suc i) (omega arith))) in
+    (λ i within.
+    let same : from + suc i ≡ from + 1 + i = omega arith in
+    subst (λ (n : ℕ). f n ≤ get_or xs i 0) same (low (suc i) (omega arith)))
+    (λ i within.
+    let same : from + suc i + 1 ≡ from + 1 + i + 1 = omega arith in
+    subst (λ (n : ℕ). get_or ys i 0 ≤ f n) same (high (suc i) (omega arith))) in
     let end : from + 1 + length xs ≡ from + suc (length xs) = omega arith in
     omega (arith, sum_by-cons (λ n. n) x xs, sum_by-cons (λ n. n) y ys, rw end at rest)
 
@@ -146,7 +157,9 @@ cursors-move view least t label old new sound phase size begun =
     let net : Net = view.net in
     let all = sums-step (begin_of net) old new 0 (omega (arith, size, phase.come.size))
     (λ i within. let same : 0 + i ≡ i = omega arith in rw same (omega (arith, begun i (omega (arith, size, within)))))
-    (λ i within. let same : 0 + i + 1 ≡ i + 1 = omega arith in rw same (phase.come.below i (omega (arith, size, within)))) in
+    (λ i within.
+    let same : 0 + i + 1 ≡ i + 1 = omega arith in
+    rw same (phase.come.below i (omega (arith, size, within)))) in
     let end : 0 + length old ≡ net.routers = omega (arith, size) in
     omega (arith, rw end at all, begin-zero net, begin-end net sound.limits)
 

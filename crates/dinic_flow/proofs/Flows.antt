@@ -10,6 +10,7 @@ use Rattle.cut_model.specs.Cuts.{RouterSet, differ, across, cut_value}
 use Rattle.cut_model.specs.Flow.{out, IsWithinCaps, IsFlow}
 use Rattle.cut_model.proofs.Duality.{flow_le}
 
+-- A link adds at most the greatest capacity to the cost of a set.
 across-le : (X : RouterSet) (routers : ℕ) (link : Link) → IsLink routers link → across X link ≤ 1000000000000
 across-le X routers link is = elim (cases_Bool (differ (X link.a) (X link.b))) [
   | inl e ↦ rw e is.cap
@@ -33,12 +34,14 @@ flow-small net s t flow k limits small is =
     (eq-eqb s s refl) (ne_eqb t s (λ e. is.differ_ends (sym e))) in
     omega (arith, below, cut_value-le net alone limits, limits.few_links)
 
+-- No flow sends nothing.
 nothing-sent : (from to : Bool) → ((cond from (pos 0) (pos 0) -ℤ cond to (pos 0) (pos 0)) +ℤ pos 0) ≡ pos 0
 nothing-sent true true = refl
 nothing-sent true false = refl
 nothing-sent false true = refl
 nothing-sent false false = refl
 
+-- Where nothing flows, no router sends anything out.
 out-still : (r : ℕ) (links : List Link) → out r links (replicate (length links) (pos 0)) ≡ pos 0
 out-still r [] = refl
 out-still r (l ∷ links) = rw (out-still r links) (nothing-sent (l.a == r) (l.b == r))

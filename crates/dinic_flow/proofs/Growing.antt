@@ -1,8 +1,7 @@
 -- A flow that grows phase by phase: how far t is, and what that cost.
-use Rattle.std.proofs.Common.{◌≡◌, ◌≢◌, ℕ, zero, suc, ◌+◌, ◌-◌, ◌*◌, ◌<◌, ◌≤◌, List, length, get_or}
-use Rattle.std.proofs.Common.{sym, ◌∙◌, ap, subst, arith, refl, inl, inr, mul-le-mul_left}
+use Rattle.std.proofs.Common.{◌≡◌, ◌≢◌, ℕ, zero, suc, ◌+◌, ◌-◌, ◌*◌, ◌<◌, ◌≤◌, List, get_or}
+use Rattle.std.proofs.Common.{◌∙◌, ap, arith, inl, inr, mul-le-mul_left}
 use Rattle.std.proofs.lemmas.Bool.{cases_lt}
-use Rattle.cut_model.specs.Net.{Net}
 use Rattle.cut_model.specs.Flow.{IsFlow}
 use Rattle.residual_graph.specs.Arcs.{arc_count}
 use Rattle.residual_graph.specs.View.{ResidualView, IsSound}
@@ -36,27 +35,14 @@ walk-some : (view : ResidualView) (least s t : ℕ) → s ≢ t → (arcs : ℕ)
 walk-some view least s t apart zero is = absurd (apart is)
 walk-some view least s t apart (suc arcs) (w, arc, rest) = (omega arith, omega (arith, arc.within))
 
-pub grows-none : (view : ResidualView) (least s t value steps : ℕ) → IsSound view → s < view.net.routers →
-    IsFlow view.net s t view.flow value → HasGrown view view least s t value 0 steps steps
-grows-none view least s t value steps sound small flow = record {
-  distance = 0;
-  same = refl;
-  sound = sound;
-  flow = flow;
-  farther = λ arcs walk. (walk-some view least s t flow.differ_ends arcs walk).0;
-  short = omega arith;
-  few = omega arith;
-  some = λ none. absurd (omega arith);
-  cost = omega (arith, paid-none (arc_count view.net));
-}
-
 -- The phases up to a distance cost no more than those up to a larger one.
 pub paid-more : (arcs distance more : ℕ) → distance ≤ more → paid arcs distance ≤ paid arcs more
 unfolding paid
 paid-more arcs distance more low =
     let first : arcs * distance ≤ arcs * more = mul-le-mul_left arcs low in
     let inner : distance * (distance + 1) ≤ more * (more + 1) = grind arith in
-    let second : (arcs + 1) * (distance * (distance + 1)) ≤ (arcs + 1) * (more * (more + 1)) = mul-le-mul_left (arcs + 1) inner in
+    let second : (arcs + 1) * (distance * (distance + 1)) ≤ (arcs + 1) * (more * (more + 1)) =
+    mul-le-mul_left (arcs + 1) inner in
     omega arith
 
 -- A search and a phase at one distance more.
@@ -66,7 +52,8 @@ unfolding paid
 paid-next arcs distance = omega arith
 
 -- One phase more, over levels where t is farther than before.
-pub grows-on : (before between after : ResidualView) (least s t value next phases earlier steps searched sent distance : ℕ)
+pub grows-on : (before between after : ResidualView)
+    (least s t value next phases earlier steps searched sent distance : ℕ)
     (label : List ℕ) → HasGrown before between least s t value phases earlier steps →
     IsJoined between least s t label distance → searched ≤ steps + arc_count between.net →
     after ≡ record between { flow = after.flow } → IsSound after → IsFlow after.net s t after.flow next →
@@ -80,7 +67,8 @@ grows-on before between after least s t value next phases earlier steps searched
     let top : get_or label t 0 - 1 ≡ distance = omega (arith, joined.end) in
     let later : old.distance < distance = old.farther distance joined.walk in
     let last : distance - 1 + 1 ≡ distance = omega arith in
-    let less : paid arcs old.distance ≤ paid arcs (distance - 1) = paid-more arcs old.distance (distance - 1) (omega arith) in
+    let less : paid arcs old.distance ≤ paid arcs (distance - 1) =
+    paid-more arcs old.distance (distance - 1) (omega arith) in
     let more : paid arcs distance ≡ paid arcs (distance - 1) + arcs + 2 * (distance * (arcs + 1)) =
     rw last at (paid-next arcs (distance - 1)) in
     let paid_now : sent ≤ searched + 2 * (distance * (arcs + 1)) = rw top at cost in

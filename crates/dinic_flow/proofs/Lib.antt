@@ -9,6 +9,8 @@ pub mod Pushes
 pub mod Sending
 pub mod Relays
 pub mod Advancing
+pub mod Paying
+pub mod Passing
 pub mod Farther
 pub mod Flows
 pub mod Growing

@@ -1,13 +1,13 @@
 -- Where a flow can lead on, an arc has something left, and the other way round.
-use Rattle.std.proofs.Common.{◌≡◌, ◌⊎◌, ℕ, zero, suc, ◌+◌, ◌*◌, ◌/◌, ◌%◌, ◌<◌, Bool, true, false, cond, List, [], ◌∷◌, length, get_or}
-use Rattle.std.proofs.Common.{arith, refl, sym, ap, subst, ◌∙◌, inl, inr, eq-eqb}
+use Rattle.std.proofs.Common.{◌≡◌, ℕ, zero, suc, ◌+◌, ◌*◌, ◌/◌, ◌%◌, ◌<◌, true, false, List, [], ◌∷◌, length, get_or}
+use Rattle.std.proofs.Common.{arith, refl, subst, inl, inr, eq-eqb}
 use Rattle.std.specs.Prelude.{◌==◌, ℤ, pos, ◌+ℤ◌, ◌-ℤ◌, ◌<ℤ◌, ◌≤ℤ◌, neg_ℤ}
 use Rattle.std.proofs.lemmas.Int.{ints}
 use Rattle.std.proofs.lemmas.Bool.{cases_Bool, ne_eqb}
 use Rattle.cut_model.specs.declared.network.Link.{Link}
 use Rattle.cut_model.specs.Net.{Net}
 use Rattle.cut_model.specs.Flow.{LinkLeads, Leads, Reaches, here, on}
-use Rattle.residual_graph.specs.Arcs.{no_link, link_of, tail_in, head_in, tail_of, head_of, arc_count}
+use Rattle.residual_graph.specs.Arcs.{no_link, link_of, tail_in, head_in, tail_of, head_of}
 use Rattle.residual_graph.specs.View.{ResidualView, flow_of, left_on}
 use Rattle.dinic_flow.specs.Levels.{OpenArc, Walk}
 
@@ -33,16 +33,19 @@ leads-from (l ∷ links) (x ∷ flow) u v zero within even h = inl h
 leads-from (l ∷ links) (x ∷ flow) u v (suc i) within even h =
     inr (leads-from links flow u v i (omega arith) (omega arith) h)
 
--- A flow below the capacity leaves something on the first arc, and one above its negative on the second.
+-- A flow below the capacity leaves something on the first arc.
 left-forth : (x : ℤ) (cap : ℕ) → x <ℤ pos cap → pos 1 ≤ℤ (pos cap -ℤ x)
 left-forth x cap h = omega (arith, ints)
 
+-- And one above the negative of the capacity leaves something on the second.
 left-back : (x : ℤ) (cap : ℕ) → neg_ℤ x <ℤ pos cap → pos 1 ≤ℤ (pos cap +ℤ x)
 left-back x cap h = omega (arith, ints)
 
+-- The other way round, for the first arc.
 forth-left : (x : ℤ) (cap : ℕ) → pos 1 ≤ℤ (pos cap -ℤ x) → x <ℤ pos cap
 forth-left x cap h = omega (arith, ints)
 
+-- And for the second.
 back-left : (x : ℤ) (cap : ℕ) → pos 1 ≤ℤ (pos cap +ℤ x) → neg_ℤ x <ℤ pos cap
 back-left x cap h = omega (arith, ints)
 

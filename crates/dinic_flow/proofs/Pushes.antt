@@ -3,7 +3,7 @@ use Rattle.std.proofs.Common.{◌≡◌, ◌≢◌, ℕ, zero, suc, ◌/◌, ◌
 use Rattle.std.proofs.Common.{List, [], ◌∷◌, length, get_or, set, get_or-set_same, get_or-set_other}
 use Rattle.std.proofs.Common.{◌∙◌, ap, arith, refl, inl, inr}
 use Rattle.std.proofs.lemmas.List.{set-get_or}
-use Rattle.std.specs.Prelude.{◌==◌, ℤ, pos, ◌+ℤ◌, ◌-ℤ◌, ◌≤ℤ◌, neg_ℤ}
+use Rattle.std.specs.Prelude.{◌==◌, ℤ, pos, ◌+ℤ◌, ◌-ℤ◌, neg_ℤ}
 use Rattle.std.proofs.lemmas.Int.{ints}
 use Rattle.std.proofs.lemmas.Bool.{cases_Bool, cases_eq, eq-eqb, ne_eqb}
 use Rattle.cut_model.specs.declared.network.Link.{Link}
@@ -83,6 +83,7 @@ left-own : (forth : Bool) (cap : ℕ) (x : ℤ) (amount : ℕ) →
 left-own true cap x amount = omega (arith, ints)
 left-own false cap x amount = omega (arith, ints)
 
+-- So a push takes the amount from its own arc.
 pub left-pushed : (before after : ResidualView) (arc amount : ℕ) →
     after.net ≡ before.net → after.flow ≡ pushed before.flow arc amount → arc / 2 < length before.flow →
     left_on after arc ≡ (left_on before arc -ℤ pos amount)
@@ -111,10 +112,13 @@ pub record IsTwin (net : Net) (other arc : ℕ) : Type 0 where
   pub tail : tail_of net other ≡ head_of net arc
   pub head : head_of net other ≡ tail_of net arc
 
-ends-turned : (forth : Bool) (a b : ℕ) → (cond (not forth) a b ≡ cond forth b a) × (cond (not forth) b a ≡ cond forth a b)
+-- The ends of an arc and of its twin.
+ends-turned : (forth : Bool) (a b : ℕ) →
+    (cond (not forth) a b ≡ cond forth b a) × (cond (not forth) b a ≡ cond forth a b)
 ends-turned true a b = (refl, refl)
 ends-turned false a b = (refl, refl)
 
+-- Another arc of the same link is that.
 pub twins : (net : Net) (other arc : ℕ) → other / 2 ≡ arc / 2 → other ≢ arc → IsTwin net other arc
 unfolding tail_in head_in
 twins net other arc same ne =
@@ -125,11 +129,12 @@ twins net other arc same ne =
       head = rw (twins-differ other arc same ne, same) both.1;
     }
 
--- A push of nothing changes nothing.
+-- Nothing along an arc leaves a flow as it is.
 along-none : (forth : Bool) (x : ℤ) → (x +ℤ cond forth (pos 0) (neg_ℤ (pos 0))) ≡ x
 along-none true x = omega (arith, ints)
 along-none false x = omega (arith, ints)
 
+-- A push of nothing changes nothing.
 pub pushed-none : (flow : List ℤ) (arc : ℕ) → pushed flow arc 0 ≡ flow
 unfolding pushed
 pushed-none flow arc =

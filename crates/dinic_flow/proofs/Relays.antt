@@ -1,10 +1,9 @@
 -- What is sent on within a phase, arc by arc and part by part.
-use Rattle.std.proofs.Common.{◌≡◌, ◌≢◌, ◌⊎◌, ℕ, ◌+◌, ◌*◌, ◌/◌, ◌<◌, ◌≤◌, min, List, length, get_or}
+use Rattle.std.proofs.Common.{◌≡◌, ◌≢◌, ◌⊎◌, ℕ, ◌+◌, ◌/◌, ◌<◌, ◌≤◌, min, List, length, get_or}
 use Rattle.std.proofs.Common.{sym, ◌∙◌, ap, subst, arith, refl, inl, inr}
 use Rattle.std.specs.Prelude.{◌==◌, ℤ, pos, ◌+ℤ◌, ◌-ℤ◌, ◌≤ℤ◌, ◌<ℤ◌}
 use Rattle.std.proofs.lemmas.Int.{ints}
 use Rattle.std.proofs.lemmas.Bool.{cases_eq, cases_lt, cases_Bool, ne_eqb}
-use Rattle.cut_model.specs.declared.network.Link.{Link}
 use Rattle.cut_model.specs.Net.{Net, IsInLimits}
 use Rattle.cut_model.specs.Flow.{out}
 use Rattle.residual_graph.specs.declared.place.Place.{Place}
@@ -14,19 +13,19 @@ use Rattle.residual_graph.specs.View.{ResidualView, IsSound, left_on, pushed}
 use Rattle.residual_graph.proofs.ByPlace.{between-is}
 use Rattle.residual_graph.proofs.Listed.{head_below}
 use Rattle.dinic_flow.specs.Levels.{IsOpen, height, IsLevelled}
-use Rattle.dinic_flow.specs.Sending.{only_at, SendsMore}
-use Rattle.dinic_flow.specs.Phases.{Rises, IsSpent, IsBlocked, HasCome, IsPhase, Sends}
+use Rattle.dinic_flow.specs.Sending.{only_at}
+use Rattle.dinic_flow.specs.Phases.{Rises, IsSpent, IsBlocked, IsPhase, Sends}
 use Rattle.dinic_flow.proofs.Pushes.{caps-length, out-pushed, left-pushed, left-apart, IsTwin, twins}
 
-le-refl : (x : ℤ) → x ≤ℤ x
-le-refl x = omega (arith, ints)
-
+-- What is at most a second number is at most what that is at most.
 le-twice : (x y z : ℤ) → x ≤ℤ y → y ≤ℤ z → x ≤ℤ z
 le-twice x y z first second = omega (arith, ints, first, second)
 
+-- A number is at most what it fell from.
 le-falls : (x y : ℤ) (amount : ℕ) → x ≡ (y -ℤ pos amount) → x ≤ℤ y
 le-falls x y amount e = omega (arith, ints, e)
 
+-- Equal numbers are in order.
 same-le : (x y : ℤ) → x ≡ y → x ≤ℤ y
 same-le x y e = omega (arith, ints, e)
 
@@ -38,6 +37,7 @@ pub data Relation (net : Net) (other arc : ℕ) : Type 0 where
   Twin : IsTwin net other arc → Relation net other arc
   Other : (other / 2 ≡ arc / 2 → ⊥) → Relation net other arc
 
+-- Any two arcs are one of these.
 pub relation : (net : Net) (other arc : ℕ) → Relation net other arc
 relation net other arc = elim (cases_eq (other / 2) (arc / 2)) [
   | inr apart ↦ Other apart
@@ -54,10 +54,12 @@ pub record IsPush (before after : ResidualView) (label : List ℕ) (arc amount :
   pub leads : Rises before.net label arc
   pub pushes : after ≡ record before { flow = pushed before.flow arc amount }
 
+-- A push leaves the network.
 push-net : (before after : ResidualView) (label : List ℕ) (arc amount : ℕ) → IsPush before after label arc amount →
     after.net ≡ before.net
 push-net before after label arc amount push = ap (λ (v : ResidualView). v.net) push.pushes
 
+-- A push changes the flow by the amount along the arc.
 push-flow : (before after : ResidualView) (label : List ℕ) (arc amount : ℕ) → IsPush before after label arc amount →
     after.flow ≡ pushed before.flow arc amount
 push-flow before after label arc amount push = ap (λ (v : ResidualView). v.flow) push.pushes
@@ -70,6 +72,7 @@ push-own before after label arc amount push =
     left-pushed before after arc amount (push-net before after label arc amount push)
     (push-flow before after label arc amount push) half
 
+-- The arcs of other links have as much left as before.
 push-apart : (before after : ResidualView) (label : List ℕ) (arc amount other : ℕ) →
     IsPush before after label arc amount → (other / 2 ≡ arc / 2 → ⊥) → left_on after other ≡ left_on before other
 push-apart before after label arc amount other push apart =
@@ -179,31 +182,6 @@ same-twice : (before between after : ResidualView) →
 same-twice before between after first second =
     second ∙ ap (λ (v : ResidualView). let w : ResidualView = record v { flow = after.flow } in w) first
 
--- A state of a phase sends nothing to itself.
-sends-none : (links : List Link) (flow : List ℤ) (router t : ℕ) → SendsMore links flow flow router t 0
-sends-none links flow router t r =
-    none (out r links flow) (only_at router r 0) (only_at t r 0) (only-none router r) (only-none t r)
-  where
-    only-none : (router r : ℕ) → only_at router r 0 ≡ pos 0
-    only-none router r = elim (cases_Bool (router == r)) [
-      | inl e ↦ rw e refl
-      | inr e ↦ rw e refl
-    ]
-
-    none : (o a b : ℤ) → a ≡ pos 0 → b ≡ pos 0 → o ≡ ((o +ℤ a) -ℤ b)
-    none o a b first second = omega (arith, ints, first, second)
-
-pub sends-start : (view : ResidualView) (cursor label : List ℕ) (router t : ℕ) →
-    Sends view view cursor cursor label router t 0
-sends-start view cursor label router t = record {
-  same = refl;
-  sends = sends-none view.net.links view.flow router t;
-  falls = λ arc within leads. le-refl (left_on view arc);
-  spares = λ arc within low. refl;
-  moves = λ r. omega arith;
-  keeps = λ r low apart. refl;
-}
-
 -- What comes to the head of an arc, and over the arc, comes from its tail.
 relayed : (o m n a b c : ℤ) → m ≡ ((o +ℤ b) -ℤ c) → n ≡ ((m +ℤ a) -ℤ b) → n ≡ ((o +ℤ a) -ℤ c)
 relayed o m n a b c first second = omega (arith, ints, first, second)
@@ -242,13 +220,17 @@ sends-over before between after old new label arc t amount sent push within =
             ∙ sent.spares other inside (omega (arith, leads, low))
       ];
       moves = sent.moves;
-      keeps = λ r low apart. sent.keeps r (omega (arith, leads, low)) (λ e. omega (arith, ap (λ (x : ℕ). get_or label x 0) e, low, leads));
+      keeps = λ r low apart.
+          sent.keeps r (omega (arith, leads, low))
+          (λ e. omega (arith, ap (λ (x : ℕ). get_or label x 0) e, low, leads));
     }
 
+-- Two amounts one behind another.
 both : (o m n a b c d e f : ℤ) → m ≡ ((o +ℤ a) -ℤ b) → n ≡ ((m +ℤ c) -ℤ d) → e ≡ (a +ℤ c) → f ≡ (b +ℤ d) →
     n ≡ ((o +ℤ e) -ℤ f)
 both o m n a b c d e f first second sum_e sum_f = omega (arith, ints, first, second, sum_e, sum_f)
 
+-- They are one amount, at the router where they are.
 only_at-sum : (router r x y : ℕ) → only_at router r (x + y) ≡ (only_at router r x +ℤ only_at router r y)
 only_at-sum router r x y = elim (cases_Bool (router == r)) [
   | inl e ↦ rw e (omega (arith, ints))
@@ -345,6 +327,7 @@ pub over-sends : (before between after : ResidualView) (old new label : List ℕ
 over-sends before between after old new label arc t amount over =
     sends-over before between after old new label arc t amount over.sent over.push over.within
 
+-- An arc of which all was taken is closed.
 closes : (x y z : ℤ) (left amount least : ℕ) → pos left ≡ x → y ≡ x → z ≡ (y -ℤ pos amount) → amount ≡ left →
     0 < least → z <ℤ pos least
 closes x y z left amount least first second third whole some = omega (arith, ints, first, second, third, whole, some)
@@ -355,7 +338,8 @@ pub over-blocked : (before between after : ResidualView) (old new label : List �
     pos left ≡ left_on before arc → most ≡ min left limit → amount ≤ most →
     (amount < most → (head_of before.net arc ≢ t) × IsSpent between.net new (head_of before.net arc)) →
     amount < limit → IsBlocked after least t label new arc
-over-blocked before between after old new label arc least t left most limit amount over some is most_is below spent short leads =
+over-blocked before between after old new label arc least t left most limit amount over some is most_is below spent
+    short leads =
     let same : after.net ≡ between.net = push-net between after label arc amount over.push in
     let led : Rises before.net label arc = rw over.same at over.push.leads in
     let spared : left_on between arc ≡ left_on before arc = over.sent.spares arc over.within (omega (arith, led)) in

@@ -1,42 +1,26 @@
--- Flow that is sent on, and flows that it makes larger.
+-- Flows that get larger by what is sent.
 use Rattle.std.proofs.Common.{◌≡◌, ◌≢◌, ℕ, ◌+◌, List, sym, arith, refl}
 use Rattle.std.specs.Prelude.{ℤ, pos, ◌+ℤ◌, ◌-ℤ◌}
 use Rattle.std.proofs.lemmas.Int.{ints}
 use Rattle.std.proofs.lemmas.Bool.{eq-eqb, ne_eqb}
-use Rattle.cut_model.specs.declared.network.Link.{Link}
 use Rattle.cut_model.specs.Net.{Net}
 use Rattle.cut_model.specs.Flow.{out, IsWithinCaps, IsFlow}
 use Rattle.dinic_flow.specs.Sending.{only_at, SendsMore}
 
-through : (o m n a b c : ℤ) → m ≡ ((o +ℤ a) -ℤ b) → n ≡ ((m +ℤ b) -ℤ c) → n ≡ ((o +ℤ a) -ℤ c)
-through o m n a b c first second = omega (arith, ints, first, second)
-
-to-and-fro : (o a : ℤ) → o ≡ ((o +ℤ a) -ℤ a)
-to-and-fro o a = omega (arith, ints)
-
--- A flow sends any amount from a router to itself.
-pub sends-nothing : (links : List Link) (flow : List ℤ) (router amount : ℕ) →
-    SendsMore links flow flow router router amount
-sends-nothing links flow router amount r = to-and-fro (out r links flow) (only_at router r amount)
-
--- What is sent to a router, and from there on, is sent all the way.
-pub sends-through : (links : List Link) (before between after : List ℤ) (from via to amount : ℕ) →
-    SendsMore links before between from via amount → SendsMore links between after via to amount →
-    SendsMore links before after from to amount
-sends-through links before between after from via to amount first second r =
-    through (out r links before) (out r links between) (out r links after)
-    (only_at from r amount) (only_at via r amount) (only_at to r amount) (first r) (second r)
-
+-- At the router itself there is the amount.
 only_at-same : (r amount : ℕ) → only_at r r amount ≡ pos amount
 only_at-same r amount = rw (eq-eqb r r refl) refl
 
+-- Elsewhere it is nothing.
 only_at-other : (router r amount : ℕ) → router ≢ r → only_at router r amount ≡ pos 0
 only_at-other router r amount apart = rw (ne_eqb router r apart) refl
 
+-- What s sends out, with an amount more.
 sum-sent : (o n a b : ℤ) (k amount : ℕ) → n ≡ ((o +ℤ a) -ℤ b) → o ≡ pos k → a ≡ pos amount → b ≡ pos 0 →
     n ≡ pos (k + amount)
 sum-sent o n a b k amount e is from to = omega (arith, ints, e, is, from, to)
 
+-- What is kept stays kept.
 sum-kept : (o n a b : ℤ) → n ≡ ((o +ℤ a) -ℤ b) → o ≡ pos 0 → a ≡ pos 0 → b ≡ pos 0 → n ≡ pos 0
 sum-kept o n a b e is from to = omega (arith, ints, e, is, from, to)
 

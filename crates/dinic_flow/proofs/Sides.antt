@@ -1,11 +1,11 @@
 -- Sides that get routers, and the least side of two routers.
-use Rattle.std.proofs.Common.{◌≡◌, ◌≢◌, ℕ, ◌+◌, ◌*◌, ◌<◌, ◌≤◌, Bool, true, false, List, length, get_or, set, replicate, take}
-use Rattle.std.proofs.Common.{sym, ◌∙◌, ap, subst, arith, refl, inl, inr}
-use Rattle.std.specs.Prelude.{pos, Contains, ◌↔◌}
+use Rattle.std.proofs.Common.{◌≡◌, ◌≢◌, ℕ, ◌<◌, Bool, true, false, List, length, set, replicate}
+use Rattle.std.proofs.Common.{sym, ◌∙◌, subst, arith, inl, inr}
+use Rattle.std.specs.Prelude.{Contains, ◌↔◌}
 use Rattle.std.proofs.lemmas.Bool.{cases_Bool, cases_eq, cases_lt, false≢true}
-use Rattle.std.proofs.lemmas.List.{get_or_past, get_or_default, get_or-set_same, get_or-set_other, get_or-replicate, length-replicate}
-use Rattle.cut_model.specs.Cuts.{RouterSet, set_of, IsLeastSide}
-use Rattle.cut_model.specs.Flow.{IsFlow, IsClosed, Reaches}
+use Rattle.std.proofs.lemmas.List.{get_or_past, get_or-set_same, get_or-set_other, get_or-replicate, length-replicate}
+use Rattle.cut_model.specs.Cuts.{set_of, IsLeastSide}
+use Rattle.cut_model.specs.Flow.{IsFlow, IsClosed}
 use Rattle.cut_model.proofs.Reached.{reached_least}
 use Rattle.residual_graph.specs.View.{ResidualView, IsSound}
 use Rattle.dinic_flow.specs.Levels.{OpenArc}
@@ -51,7 +51,8 @@ apart-least view s t k reached side sound small flow apart held =
     let closed : IsClosed (set_of side) view.net.links view.flow = λ u v in_side leads.
     let arc : OpenArc view 1 u v = leads-arc view u v leads in
     let from : Contains reached u = (held u).0 in_side in
-    let to = apart.closed arc.arc arc.within arc.is_open (subst (λ (r : ℕ). Contains reached r) (sym arc.tail) from) in
+    let to = apart.closed arc.arc arc.within arc.is_open
+    (subst (λ (r : ℕ). Contains reached r) (sym arc.tail) from) in
     (held v).1 (subst (λ (r : ℕ). Contains reached r) arc.head to) in
     reached_least view.net sound.limits s t view.flow k small flow (set_of side) ((held s).1 apart.holds) lacks closed
     (λ r below in_side.

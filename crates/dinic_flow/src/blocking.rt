@@ -1,5 +1,5 @@
 //! A blocking flow over levels.
-ghost use Rattle.std.specs.Prelude.{◌≡◌, ◌≢◌, ℕ, ◌+◌, ◌-◌, ◌*◌, ◌<◌, ◌≤◌, ◌≤ℤ◌, pos, length, slice_index};
+ghost use Rattle.std.specs.Prelude.{◌≡◌, ◌≢◌, ℕ, ◌+◌, ◌-◌, ◌<◌, ◌≤◌, ◌≤ℤ◌, pos, slice_index};
 ghost use Rattle.residual_graph.specs.Arcs.{arc_count, tail_of};
 ghost use Rattle.residual_graph.specs.Places.{place_at};
 ghost use Rattle.residual_graph.specs.View.{IsSound, left_on, pushed};
@@ -74,7 +74,8 @@ fn send_over<L: Ledger>(
 ) -> u64
     requires phase { IsPhase graph.old least t label.now cursor.old }
     requires at { at < arc_count graph.old.net }
-    requires next { next ≡ slice_index label.now (tail_of graph.old.net (place_at graph.old.net at).arc) + 1 }
+    requires next { next
+        ≡ slice_index label.now (tail_of graph.old.net (place_at graph.old.net at).arc) + 1 }
     requires labelled { 1 < next }
     requires low { next ≤ slice_index label.now t }
     requires t { t < graph.old.net.routers }
@@ -88,7 +89,8 @@ fn send_over<L: Ledger>(
         in slice_index cursor.new tail ≡ slice_index cursor.old tail }
     ensures blocked { result < limit →
         IsBlocked graph.new least t label.now cursor.new (place_at graph.old.net at).arc }
-    ensures cost { Costs (slice_index label.now t - next) cursor.old cursor.new (steps.old + 2) steps.new }
+    ensures cost { Costs (slice_index label.now t - next)
+        cursor.old cursor.new (steps.old + 2) steps.new }
 {
     let place = graph.place(at);
     if label[place.head as usize] != next {

@@ -1,5 +1,6 @@
 //! Least cuts from greatest flows.
-ghost use Rattle.std.specs.Prelude.{◌≡◌, ◌≢◌, ◌↔◌, ℕ, ◌+◌, ◌*◌, ◌<◌, ◌≤◌, All, Contains, length, pos, replicate, true};
+ghost use Rattle.std.specs.Prelude.{◌≡◌, ◌≢◌, ◌↔◌, ℕ, ◌+◌, ◌*◌, ◌<◌, ◌≤◌};
+ghost use Rattle.std.specs.Prelude.{All, Contains, length, pos, replicate, true};
 ghost use Rattle.cut_model.specs.Cuts.{IsLeastSide, set_of};
 ghost use Rattle.cut_model.specs.Flow.{IsFlow};
 ghost use Rattle.residual_graph.specs.View.{IsSound};
@@ -28,8 +29,8 @@ fn hold_only(side: &mut Side, routers: &[u32])
     }
 }
 
-/// A flow from `s` to `t` over the arcs that have at least `least` left, where there is none yet. At
-/// `least` 1, which is left to the flow that follows, it stays at none.
+/// A flow from `s` to `t` over the arcs that have at least `least` left, where there is none yet.
+/// Where `least` is 1 or 0, it is left to the flow that follows, and stays at none.
 fn coarse_flow<L: Ledger>(
     graph: &mut Residual,
     s: u32,
@@ -67,9 +68,9 @@ fn coarse_flow<L: Ledger>(
     }
 }
 
-/// A least cut of `s` from `t` in a graph without a flow, whose least side goes into `side`. Flow is
-/// first sent over the arcs that have at least `least` left, and then over all that have any. The four
-/// lists have room for all routers; what they hold before and afterwards means nothing.
+/// A least cut of `s` from `t` in a graph without a flow, whose least side goes into `side`. Flow
+/// is first sent over the arcs that have at least `least` left, and then over all that have any.
+/// The four lists have room for all routers; what they hold before and afterwards means nothing.
 pub fn least_side<L: Ledger>(
     graph: &mut Residual,
     s: u32,

@@ -18,8 +18,8 @@ const HARD_PHASES: u32 = 16;
 /// After a hard cut, so many begin with a coarse flow.
 const COARSE_CUTS: u32 = 64;
 
-/// Room for least cuts in networks up to a number of routers and of links, with the network that was
-/// cut last and the flow that shows its cut to be least. Contracts see a `DeskView`.
+/// Room for least cuts in networks up to a number of routers and of links, with the network that
+/// was cut last and the flow that shows its cut to be least. Contracts see a `DeskView`.
 #[derive(Drop)]
 pub struct FlowDesk {
     routers: u32,
@@ -91,8 +91,8 @@ impl FlowDesk {
         self.graph.load(net);
     }
 
-    /// The least amount of the coarse flow with which a cut begins: about the share of an arc of `s`
-    /// in what can leave `s` or reach `t`. 1 where there is to be no coarse flow.
+    /// The least amount of the coarse flow with which a cut begins: about the share of an arc of
+    /// `s` in what can leave `s` or reach `t`. 1 where there is to be no coarse flow.
     fn coarse_least(&self, s: u32, t: u32) -> u64
         requires s { s < self.now.net.routers }
         requires t { t < self.now.net.routers }
@@ -147,10 +147,10 @@ impl FlowDesk {
         cut.value
     }
 
-    /// The value of a least cut of `s` from `t`. Afterwards `side` holds the least side of `s`, which
-    /// is a part of every other side of such a cut, whatever it held before, and the desk holds a
-    /// greatest flow from `s` to `t`. With n routers and m links it looks at what is left on an arc,
-    /// or pushes, at most 6mn² times (Dinic, 1970). It takes no memory.
+    /// The value of a least cut of `s` from `t`. Afterwards `side` holds the least side of `s`,
+    /// which is a part of every other side of such a cut, whatever it held before, and the desk
+    /// holds a greatest flow from `s` to `t`. With n routers and m links it looks at what is left
+    /// on an arc, or pushes, at most 6mn² times (Dinic, 1970). It takes no memory.
     pub fn least_cut<L: Ledger>(
         &mut self,
         net: &Network,
@@ -284,8 +284,8 @@ impl FlowDesk {
         self.least_cut_of_held_from::<Brand>(s, t, side, Blank::new(1))
     }
 
-    /// The flow of the last cut on a link, positive from its end a to its end b. Where the network was
-    /// loaded and not cut yet, it is 0.
+    /// The flow of the last cut on a link, positive from its end a to its end b. Where the network
+    /// was loaded and not cut yet, it is 0.
     pub fn flow_on(&self, link: u32) -> i64
         requires { link < length self.now.net.links }
         ensures { result ≡ slice_index_or self.now.flow link (pos 0) }

@@ -1,5 +1,5 @@
 //! Greatest flows over open arcs, phase by phase.
-ghost use Rattle.std.specs.Prelude.{◌≡◌, ◌≢◌, ℕ, ◌+◌, ◌-◌, ◌*◌, ◌<◌, ◌≤◌, length, slice_index, take};
+ghost use Rattle.std.specs.Prelude.{◌≡◌, ℕ, ◌+◌, ◌-◌, ◌*◌, ◌<◌, ◌≤◌, length, slice_index, take};
 ghost use Rattle.cut_model.specs.Flow.{IsFlow};
 ghost use Rattle.residual_graph.specs.Arcs.{arc_count};
 ghost use Rattle.residual_graph.specs.View.{IsSound};
@@ -51,8 +51,8 @@ pub struct Flow {
     pub reached: usize,
 }
 
-/// Makes a flow of `value` from `s` to `t` grow until no walk of open arcs leads from `s` to `t`, by
-/// phases over longer and longer walks (Dinic, 1970). The first so many of `ahead` are then all
+/// Makes a flow of `value` from `s` to `t` grow until no walk of open arcs leads from `s` to `t`,
+/// by phases over longer and longer walks (Dinic, 1970). The first so many of `ahead` are then all
 /// routers to which open arcs lead from `s`. With n routers and m links there are fewer than n
 /// phases, and at most 3mn² steps.
 pub fn max_flow<L: Ledger>(

@@ -26,8 +26,8 @@ pub enum Found {
     Apart(usize),
 }
 
-/// How far a ball has come: the first `known` routers of its queue are in it, and those from `front`
-/// on are `radius` open arcs away from its centre.
+/// How far a ball has come: the first `known` routers of its queue are in it, and those from
+/// `front` on are `radius` open arcs away from its centre.
 #[derive(Clone, Copy)]
 struct Ball {
     front: usize,
@@ -69,8 +69,8 @@ fn is_new(first: u32, second: u32) -> bool
 }
 
 /// Gives the label to the head of an arc, and puts it into the queue, if the arc is open and the
-/// head has no label yet. Where the head is in the other ball, it stays so, and the balls are joined.
-/// At most one step.
+/// head has no label yet. Where the head is in the other ball, it stays so, and the balls are
+/// joined. At most one step.
 #[inline(always)]
 fn reach<L: Ledger>(
     graph: &Residual,
@@ -168,8 +168,8 @@ fn look_around<L: Ledger>(
     }
 }
 
-/// Spreads a ball by one arc, until an open arc joins it with the other one. At most one step for each
-/// arc of the routers at its front.
+/// Spreads a ball by one arc, until an open arc joins it with the other one. At most one step for
+/// each arc of the routers at its front.
 #[inline(always)]
 fn spread<L: Ledger>(
     graph: &Residual,
@@ -244,7 +244,7 @@ impl Ball {
 }
 
 /// Whether the ball about s grows next: at first, where that about t can't, and where its front has
-/// at most half as many routers.
+/// at most half as many routers as the other's.
 fn grows_near(near: Ball, far: Ball) -> bool
     requires near { near.front ≤ near.known }
     requires small { near.known ≤ 1024 }
@@ -278,13 +278,14 @@ fn number(label: &mut [u32], marks: &[u32], queue: &[u32], total: u32)
     }
 }
 
-/// Searches a walk of fewest open arcs from s to t, by balls about both. The smaller front grows,
-/// until an open arc joins the balls, or that of s can't grow (Pohl, 1971). It looks at each arc
-/// at most once.
+/// Searches a walk of fewest open arcs from s to t, by balls about both: the routers within so many
+/// open arcs of s, and those of which t is within so many. One of the two grows at a time, until an
+/// open arc joins the balls, or that of s can't grow (Pohl, 1971). It looks at each arc at most
+/// once.
 ///
 /// Where they join, `label` has the levels. Where they don't, `ahead` begins with the routers that
-/// s reaches. `marks` has the labels of the ball about t, and `behind` its routers: what the two hold
-/// afterwards means nothing.
+/// s reaches. `marks` has the labels of the ball about t, and `behind` its routers: what the two
+/// hold afterwards means nothing.
 pub fn search<L: Ledger>(
     graph: &Residual,
     s: u32,

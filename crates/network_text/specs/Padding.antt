@@ -1,13 +1,15 @@
--- A short list of bytes in 32 bytes with its length.
-use Rattle.std.specs.Prelude.{◌≡◌, ℕ, ◌≤◌, ◌-◌, List, ◌++◌, length, take, drop, replicate}
+-- A name in 32 bytes with its length.
+use Rattle.std.specs.Prelude.{◌≡◌, ℕ, ◌≤◌, ◌-◌, List, ◌++◌, length, take, drop, replicate, IsTrue}
 use Rattle.std.proofs.Common.{◌∙◌, ap, sym, arith}
 use Rattle.std.proofs.lemmas.List.{take-append-drop, length-take-le}
+use Rattle.text_forms.specs.Names.{is_name}
 
--- The bytes past the length are zeros.
+-- The bytes up to the length are a name, and those past it are zeros.
 pub record IsPadded (len : ℕ) (bytes : List ℕ) : Type 0 where
   pub short : len ≤ 32
   pub size : length bytes ≡ 32
   pub zeros : drop len bytes ≡ replicate (32 - len) 0
+  pub named : IsTrue (is_name (take len bytes))
 
 -- The bytes of which these are the front, with zeros behind them.
 abbrev pub padded : List ℕ → List ℕ

@@ -4,7 +4,7 @@ use Rattle.std.specs.declared.option.Option.{Option}
 use Rattle.text_forms.specs.Names.{is_name}
 use Rattle.cut_model.specs.Net.{IsLink}
 use Rattle.cut_model.specs.declared.network.Link.{Link}
-use Rattle.network_text.specs.Texts.{Draft, Progress, after_line, verdict_at}
+use Rattle.network_text.specs.Texts.{Draft, Progress, after_line}
 use Rattle.network_text.specs.Sheets.{SheetView}
 use Rattle.network_text.specs.declared.fault.TextFault.{TextFault}
 use Rattle.network_text.specs.declared.fault.TextKind.{TextKind}
@@ -42,9 +42,10 @@ pub record IsLost (old new : Progress) : Type 0 where
 abbrev pub TakesLine : Progress → List ℕ → Progress → Type 0
 TakesLine old line new = (new ≡ after_line old line) ⊎ IsLost old new
 
--- A reader that is closed gives the verdict, or says that memory was wanted.
-abbrev pub Closes : Reading → Result SheetView TextFault → Type 0
-Closes reading result = (result ≡ verdict_at reading.ended reading.progress) ⊎ IsWant result
+-- A reader that is closed gives the verdict; in place of a sheet it may say that memory was wanted.
+abbrev pub Closes : Result SheetView TextFault → Result SheetView TextFault → Type 0
+Closes (Err fault) result = result ≡ Err fault
+Closes (Ok sheet) result = (result ≡ Ok sheet) ⊎ IsWant result
 
 -- What a line says was added to a draft, or told as its fault, or memory was wanted.
 abbrev pub Adds : Result Draft TextKind → Result (Unit {0}) TextKind → Draft → Type 0

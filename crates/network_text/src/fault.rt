@@ -36,7 +36,7 @@ pub enum TextKind {
     #[error("too many links")]
     TooManyLinks,
     /// The text ended and no router was named.
-    #[error("no terminal router")]
+    #[error("no router")]
     NoTerminal,
     /// The input ended before END.
     #[error("ended before END")]
@@ -85,6 +85,6 @@ impl<T: Drop> From<AllocFailed<T>> for TextKind {
 pub struct TextFault {
     /// What is wrong.
     pub kind: TextKind,
-    /// The number of the line.
+    /// The number of the line. For `Memory` it is some line of the text.
     pub line: u32,
 }

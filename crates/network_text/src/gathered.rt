@@ -2,7 +2,7 @@
 
 ghost use Rattle.std.specs.Prelude.{◌≡◌, ◌⊎◌, ◌<◌, [], true, length, IfErr, IfOk, OnOk};
 ghost use Rattle.text_forms.specs.Words.{words_of};
-ghost use Rattle.network_text.specs.Readings.{Adds, IsWant, IsWithinLimits};
+ghost use Rattle.network_text.specs.Readings.{Adds, Closes, IsWithinLimits};
 ghost use Rattle.network_text.specs.Texts.{link_line, place_of, router_line, whole_verdict, with_line};
 ghost use Rattle.network_text.specs.Texts.{with_link, with_name, with_names, with_words};
 
@@ -154,7 +154,7 @@ impl Gathered {
     /// The sheet of what was gathered, where its END is the line of this number.
     pub(crate) fn into_sheet(self, alloc: Global, end: u32) -> Result<Sheet, TextFault>
         requires { IsWithinLimits self.names self.links }
-        ensures { (result ≡ whole_verdict end true self) ⊎ IsWant result }
+        ensures { Closes (whole_verdict end true self) result }
     {
         let Gathered { names, links } = self;
         if names.is_empty() {

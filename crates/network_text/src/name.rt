@@ -52,13 +52,14 @@ impl Name {
     pub fn as_bytes(&self) -> &[u8]
         ensures value { result.now ≡ self.now }
         ensures short { length result.now ≤ 32 }
+        ensures named { IsTrue (name result.now) }
     {
         &self.bytes[..self.len as usize]
     }
 
     /// These bytes with zeros behind them.
     fn padded(bytes: &[u8]) -> Name
-        requires { length bytes.now ≤ 32 }
+        requires { IsTrue (name bytes.now) }
         ensures { result ≡ bytes.now }
     {
         let mut padded = [0; LONGEST_NAME];

@@ -3,7 +3,7 @@
 ghost use Rattle.std.specs.Prelude.{◌≡◌, ◌<◌, ◌^◌, IfOk, IsTrue, IsFalse, false, true};
 ghost use Rattle.text_forms.specs.Words.{is_end as end_line};
 ghost use Rattle.network_text.specs.Readings.{Closes, TakesLine};
-ghost use Rattle.network_text.specs.Texts.{at_start};
+ghost use Rattle.network_text.specs.Texts.{at_start, verdict_at};
 
 use crate::fault::{TextFault, TextKind};
 use crate::gathered::Gathered;
@@ -50,7 +50,8 @@ impl Reader {
     /// A reader before the first line.
     ///
     /// # Errors
-    /// [`NoMemory`] where memory was wanted, though today it takes none.
+    /// [`NoMemory`] where memory was wanted. A reader that begins takes none as it is built, and its
+    /// caller need not rely on that.
     pub fn begin(alloc: Global) -> Result<Reader, NoMemory>
         ensures { IfOk result (λ reader. reader ≡ record { progress = at_start; ended = false }) }
     {
@@ -99,7 +100,7 @@ impl Reader {
     /// The first thing that went wrong. Where nothing did, `EndedEarly` where no END came, and
     /// `NoTerminal` where END came and no router was named. `Memory` may come in place of a sheet.
     pub fn close(self) -> Result<Sheet, TextFault>
-        ensures { Closes self result }
+        ensures { Closes (verdict_at self.ended self.progress) result }
     {
         let Reader {
             alloc,

@@ -94,7 +94,7 @@ fn serve_both<S: Source, K: Sink>(
     serve_session(alloc, session, shelf, &mut Pair { source, sink })
 }
 
-/// Runs the command that the words name; for now `plan` alone, one session over the source and the
+/// Runs the command that the words name. It is `plan`: one session over the source and the
 /// sink.
 ///
 /// The session reads request lines to the end of the input or to BYE, and puts one reply for each

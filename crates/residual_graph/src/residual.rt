@@ -123,8 +123,8 @@ impl Residual {
     }
 
     /// Takes all flow back: each link has none, as after `load`, and the network is the same. It looks
-    /// at the links alone that carried flow since the last `load` or `undo`, unless these pushes were
-    /// more than there is room for links.
+    /// at the links alone that got flow since the last `load` or `undo`, or at all links where links
+    /// without flow got some more often than there is room for links.
     pub fn undo(&mut self)
         ensures value { self.new
             ≡ record self.old { flow = replicate (length self.old.net.links) (pos 0) } }

@@ -1,5 +1,5 @@
 -- The side holds just the routers so far.
-use Rattle.std.proofs.Common.{◌≡◌, ℕ, ◌+◌, ◌<◌, true, Bool, List, length, get_or, set, replicate, sym, ◌∙◌, ap, subst, arith, inl, inr}
+use Rattle.std.proofs.Common.{◌≡◌, ℕ, ◌<◌, true, Bool, List, length, get_or, set, sym, ◌∙◌, ap, subst, arith, inl, inr}
 use Rattle.std.proofs.lemmas.Bool.{cases_eq, cases_lt, false≢true}
 use Rattle.std.proofs.lemmas.List.{get_or_default, length-set, length-replicate}
 use Rattle.cut_model.specs.Cuts.{set_of}
@@ -11,7 +11,8 @@ loop-router-init c = record {
   size = ap length c.clear.ensures ∙ length-replicate (length c.args.side.now) _;
   put = λ k none. absurd (omega arith);
   only = λ r h.
-      absurd (false≢true (sym (set_of-none (length c.args.side.now) r) ∙ ap (λ (bits : List Bool). set_of bits r) (sym c.clear.ensures) ∙ h));
+      absurd (false≢true (sym (set_of-none (length c.args.side.now) r)
+      ∙ ap (λ (bits : List Bool). set_of bits r) (sym c.clear.ensures) ∙ h));
 }
 
 pub loop-router-preserved : goal.loop-router-preserved
@@ -33,7 +34,8 @@ loop-router-preserved c =
       only = λ r h.
           let held : set_of (set side router true) r ≡ true = rw c.put.ensures at h in
           elim (cases_eq r router) [
-            | inl is ↦ (at, omega arith, sym (get_or_default c.args.routers.now at 0 r c.loop-router-test.true) ∙ sym is)
+            | inl is ↦
+                (at, omega arith, sym (get_or_default c.args.routers.now at 0 r c.loop-router-test.true) ∙ sym is)
             | inr apart ↦
                 let (k, early, was) = inv.only r (set_of-only side router r apart held) in
                 (k, omega arith, was)

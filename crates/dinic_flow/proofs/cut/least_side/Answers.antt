@@ -1,5 +1,5 @@
 -- What s reaches under the greatest flow is the least side.
-use Rattle.std.proofs.Common.{◌≡◌, ℕ, ◌∙◌, take, ap}
+use Rattle.std.proofs.Common.{◌≡◌, ◌∙◌, take, ap}
 use Rattle.residual_graph.specs.View.{ResidualView}
 use Rattle.dinic_flow.proofs.Flows.{flow-none}
 use Rattle.dinic_flow.proofs.Sides.{apart-least}

@@ -1,8 +1,7 @@
 -- Each phase is over levels that are farther than those before.
-use Rattle.std.proofs.Common.{◌≡◌, ℕ, ◌+◌, ◌*◌, ◌<◌, ◌≤◌, length, arith, ap}
-use Rattle.cut_model.specs.Net.{Net}
+use Rattle.std.proofs.Common.{◌≡◌, ℕ, ◌<◌, length, arith, ap}
 use Rattle.residual_graph.specs.View.{ResidualView}
-use Rattle.dinic_flow.proofs.Growing.{HasGrown, grows-on, paid-all}
+use Rattle.dinic_flow.proofs.Growing.{grows-on, paid-all}
 use Rattle.dinic_flow.proofs.flow.max_flow.Goals as goal
 
 pub loop-graph-preserved : goal.loop-graph-preserved

@@ -1,14 +1,11 @@
 -- A phase sends less than the limit, so that s is spent in the end.
-use Rattle.std.proofs.Common.{◌≡◌, ℕ, ◌+◌, ◌-◌, ◌*◌, ◌<◌, ◌≤◌, get_or, sum, sym, ap, subst, arith}
+use Rattle.std.proofs.Common.{◌≡◌, ◌+◌, ◌-◌, get_or, sum, ap, arith}
 use Rattle.cut_model.specs.Net.{Net}
 use Rattle.cut_model.specs.Flow.{IsFlow}
 use Rattle.residual_graph.specs.Arcs.{arc_count}
 use Rattle.residual_graph.specs.View.{ResidualView}
-use Rattle.dinic_flow.specs.Sending.{SendsMore}
-use Rattle.dinic_flow.specs.Phases.{IsSpent, Costs}
 use Rattle.dinic_flow.proofs.Sending.{flow-more}
 use Rattle.dinic_flow.proofs.Flows.{flow-small}
-use Rattle.dinic_flow.proofs.Advancing.{below-top}
 use Rattle.dinic_flow.proofs.Farther.{phase-begun, farther, cursors-move, phase-pays}
 use Rattle.dinic_flow.proofs.flow.phase.Goals as goal
 
@@ -25,7 +22,11 @@ overflow_add-result g c =
     let more : IsFlow before.net c.args.s c.args.t after.flow (c.args.value + c.send.result) =
     flow-more before.net c.args.s c.args.t before.flow after.flow c.args.value c.send.result c.requires.flow
     c.send.ensures.sends.sends (rw net at c.send.ensures.phase.sound.within) in
-    omega (arith, flow-small before.net c.args.s c.args.t after.flow (c.args.value + c.send.result) c.requires.sound.limits c.requires.s more)
+    omega (
+      arith,
+      flow-small before.net c.args.s c.args.t after.flow (c.args.value + c.send.result)
+          c.requires.sound.limits c.requires.s more,
+    )
 
 pub returns-clause-farther : goal.returns-clause-farther
 returns-clause-farther g c =
@@ -35,7 +36,8 @@ returns-clause-farther g c =
     let more : IsFlow before.net c.args.s c.args.t after.flow (c.args.value + c.send.result) =
     flow-more before.net c.args.s c.args.t before.flow after.flow c.args.value c.send.result c.requires.flow
     c.send.ensures.sends.sends (rw net at c.send.ensures.phase.sound.within) in
-    let small = flow-small before.net c.args.s c.args.t after.flow (c.args.value + c.send.result) c.requires.sound.limits c.requires.s more in
+    let small = flow-small before.net c.args.s c.args.t after.flow (c.args.value + c.send.result)
+    c.requires.sound.limits c.requires.s more in
     farther after c.args.least c.args.s c.args.t c.args.label.now c.send.new.cursor c.send.ensures.phase
     c.requires.start c.requires.flow.differ_ends (rw net c.requires.s)
     (c.send.ensures.spent (omega (arith, small)))
@@ -49,4 +51,5 @@ returns-clause-steps g c =
     c.send.ensures.phase.sound c.send.ensures.phase (omega (arith, c.requires.cursor, ap (λ (n : Net). n.routers) net))
     (λ r small. rw net (c.copy_begins.ensures.begins r (rw net at small))) in
     phase-pays (get_or c.args.label.now c.args.t 0 - 1) (sum c.copy_begins.new.cursor) (sum c.send.new.cursor)
-    (arc_count before.net) c.args.steps.now c.send.new.steps (rw net at moved) (rw c.requires.start at c.send.ensures.cost)
+    (arc_count before.net) c.args.steps.now c.send.new.steps (rw net at moved)
+    (rw c.requires.start at c.send.ensures.cost)

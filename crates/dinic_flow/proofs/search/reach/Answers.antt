@@ -1,5 +1,5 @@
 -- A head over an open arc is the next router, and there is room for it.
-use Rattle.std.proofs.Common.{◌≡◌, ℕ, ◌+◌, ◌<◌, ◌≤◌, get_or, sym, ◌∙◌, arith, inl, inr}
+use Rattle.std.proofs.Common.{get_or, sym, ◌∙◌, arith, inl, inr}
 use Rattle.std.proofs.lemmas.Bool.{cases_eq, leb-true, false≢true}
 use Rattle.residual_graph.specs.Arcs.{tail_of, turned}
 use Rattle.dinic_flow.specs.Levels.{IsOpen}

@@ -132,8 +132,8 @@ returns-clause-found g c =
       omega (arith, old.near_few, c.loop-near.auto.ahead),
       parted c.args.graph.now c.args.least c.args.s c.args.t c.loop-near.label c.loop-near.marks
           c.loop-near.ahead c.loop-near.behind c.loop-near.near.front c.loop-near.near.known c.loop-near.near.radius
-          old.near_ball (omega (arith, c.loop-near-test.false)) old.apart (omega (arith, old.near_few, c.loop-near.auto.ahead))
-          old.start far.centre old.end,
+          old.near_ball (omega (arith, c.loop-near-test.false)) old.apart
+          (omega (arith, old.near_few, c.loop-near.auto.ahead)) old.start far.centre old.end,
     )
 
 pub returns-clause-steps : goal.returns-clause-steps
