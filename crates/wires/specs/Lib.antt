@@ -1,3 +1,4 @@
+pub mod Asides
 pub mod Beside
 pub mod Bytes
 pub mod Causes

@@ -7,6 +7,7 @@
 mod counting;
 mod faults;
 mod memory;
+mod peers;
 mod pieces;
 mod sinks;
 mod sources;
@@ -18,6 +19,7 @@ mod tests;
 pub use counting::CountingSink;
 pub use faults::Failed;
 pub use memory::{MemorySink, MemorySource};
+pub use peers::{MemoryPeer, Pair, Peer};
 pub use pieces::put_pieces;
 pub use sinks::Sink;
 pub use sources::Source;

@@ -1,5 +1,9 @@
 //! What no clause says: that the calls which take memory succeed, and what std's readers and writers do.
 
+ghost use Rattle.std.specs.Prelude.{◌≡◌, IfOk, Ok};
+ghost use Rattle.std.specs.Io.KnownBytes.{Appends, ReadConsumes};
+ghost use Rattle.wires.specs.Bytes.{PutAppends};
+
 use crate::*;
 use std::test::Fail;
 
@@ -43,5 +47,86 @@ fn standard_source_reads_to_the_end(rt: HostRuntime) {
 fn standard_sink_writes_the_whole_piece(rt: HostRuntime) -> Result<(), Fail> {
     let mut sink = StdSink::make(Vec::new(rt.alloc()));
     assert_eq!(rt; sink.put(b"abc"), Ok(()));
+    Ok(())
+}
+
+// Reads from any peer, and leaves what it shows as a sink.
+fn hear<P: Peer>(peer: &mut P, buffer: &mut [u8]) -> Result<usize, Failed>
+    ensures reads { ReadConsumes (P.left peer.old) (P.left peer.new) result buffer.new }
+    ensures written { P.written peer.new ≡ P.written peer.old }
+    ensures faults { P.write_faults peer.new ≡ P.write_faults peer.old }
+    ensures takes { P.takes peer.new ≡ P.takes peer.old }
+    ensures beside { P.beside_peer peer.new ≡ P.beside_peer peer.old }
+{
+    peer.read(buffer)
+}
+
+// Puts to any peer, and leaves what it shows as a source.
+fn tell<P: Peer>(peer: &mut P, bytes: &[u8]) -> Result<(), Failed>
+    ensures bytes { PutAppends (P.written peer.old) (P.written peer.new) result bytes.now }
+    ensures left { P.left peer.new ≡ P.left peer.old }
+    ensures ended { P.ended peer.new ≡ P.ended peer.old }
+    ensures faults { P.read_faults peer.new ≡ P.read_faults peer.old }
+    ensures beside { P.beside_peer peer.new ≡ P.beside_peer peer.old }
+{
+    peer.put(bytes)
+}
+
+// Puts to any peer, and then reads from it.
+fn ask<P: Peer>(peer: &mut P, bytes: &[u8], buffer: &mut [u8]) -> Result<usize, Failed>
+    ensures reads { ReadConsumes (P.left peer.old) (P.left peer.new) result buffer.new }
+    ensures written { IfOk result (λ _. Appends (P.written peer.old) (P.written peer.new) bytes.now) }
+    ensures beside { P.beside_peer peer.new ≡ P.beside_peer peer.old }
+{
+    tell(peer, bytes)?;
+    hear(peer, buffer)
+}
+
+// The same over two objects, which stay what they are beside a source and beside a sink.
+fn ask_both<S: Source, K: Sink>(
+    source: &mut S,
+    sink: &mut K,
+    bytes: &[u8],
+    buffer: &mut [u8],
+) -> Result<usize, Failed>
+    ensures reads { ReadConsumes (S.left source.old) (S.left source.new) result buffer.new }
+    ensures written { IfOk result (λ _. Appends (K.written sink.old) (K.written sink.new) bytes.now) }
+    ensures beside_source { S.beside_source source.new ≡ S.beside_source source.old }
+    ensures beside_sink { K.beside_sink sink.new ≡ K.beside_sink sink.old }
+{
+    ask(&mut Pair { source, sink }, bytes, buffer)
+}
+
+#[test]
+fn memory_peer_is_read_and_put(rt: HostRuntime) -> Result<(), Fail> {
+    let bytes = b"abcde".to_vec(rt.alloc())?;
+    let source = MemorySource::make(bytes, 3, [2u32].to_vec(rt.alloc())?);
+    let sink = MemorySink::make(rt.alloc(), 4, [3u32].to_vec(rt.alloc())?)?;
+    let mut peer = MemoryPeer { source, sink };
+    let mut buffer = [0u8; 8];
+    assert_eq!(rt; ask(&mut peer, b"xy", &mut buffer), Ok(3));
+    assert_eq!(rt; ask(&mut peer, b"z", &mut buffer), Err(Failed));
+    assert_eq!(rt; tell(&mut peer, b"w"), Err(Failed));
+    assert_eq!(rt; ask(&mut peer, b"w", &mut buffer), Ok(2));
+    assert_eq!(rt; hear(&mut peer, &mut buffer), Ok(0));
+    assert_eq!(rt; &buffer[..3], b"dec".as_slice());
+    assert_eq!(rt; peer.sink.written(), b"xyzw".as_slice());
+    Ok(())
+}
+
+#[test]
+fn pair_reads_one_object_and_puts_to_the_other(rt: HostRuntime) -> Result<(), Fail> {
+    let mut source = SureSource::make(b"abc".to_vec(rt.alloc())?);
+    let mut sink = MemorySink::make(rt.alloc(), 4, Vec::new(rt.alloc()))?;
+    let mut buffer = [0u8; 2];
+    assert_eq!(rt; ask_both(&mut source, &mut sink, b"xy", &mut buffer), Ok(2));
+    assert_eq!(rt; ask_both(&mut source, &mut sink, b"z", &mut buffer), Ok(1));
+    assert_eq!(rt;
+        ask_both(&mut source, &mut sink, b"vw", &mut buffer),
+        Err(Failed)
+    );
+    assert_eq!(rt; source.read(&mut buffer), Ok(0));
+    assert_eq!(rt; buffer, [b'c', b'b']);
+    assert_eq!(rt; sink.written(), b"xyzv".as_slice());
     Ok(())
 }
