@@ -11,10 +11,10 @@ ghost use Rattle.wires.specs.Causes.{Rose};
 
 use crate::{Outcome, Status};
 use cut_model::NoMemory;
-use session::{Pair, Session, SessionEnd, serve_session};
+use session::{Session, SessionEnd, serve_session};
 use std::alloc::Global;
 use tree_versions::SoloShelf;
-use wires::{Sink, Source};
+use wires::{Pair, Sink, Source};
 
 /// All that a run needs: a session, and the shelf on which its records are published.
 #[derive(Drop)]

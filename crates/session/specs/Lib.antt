@@ -4,4 +4,3 @@ pub mod Sessions
 pub mod Taking
 pub mod Turns
 pub mod Building
-pub mod Asides

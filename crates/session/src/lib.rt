@@ -7,11 +7,9 @@
 
 mod build;
 mod intake;
-mod peer;
 mod serve;
 mod session;
 mod state;
 
-pub use peer::{Pair, Peer};
 pub use serve::SessionEnd;
 pub use session::{Session, serve_session};

@@ -14,12 +14,11 @@ ghost use Rattle.wires.specs.Bytes.{PutAppends};
 ghost use Rattle.wires.specs.Causes.{HasCause, Rose};
 
 use crate::intake::Taken;
-use crate::peer::Peer;
 use crate::state::State;
 use line_reader::{Line, LineReader, Next};
 use std::alloc::Global;
 use tree_versions::Shelf;
-use wires::Failed;
+use wires::{Failed, Peer};
 
 /// How a session ends.
 #[derive(Clone, Copy, PartialEq, Eq, Debug)]

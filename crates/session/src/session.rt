@@ -4,13 +4,13 @@ ghost use Rattle.session.specs.Turns.{EndsAs};
 ghost use Rattle.wires.specs.Causes.{Rose};
 
 use crate::intake::Intake;
-use crate::peer::Peer;
 use crate::serve::{SessionEnd, serve};
 use crate::state::State;
 use cut_model::NoMemory;
 use line_reader::{Line, LineReader};
 use std::alloc::Global;
 use tree_versions::Shelf;
+use wires::Peer;
 
 /// The scratch of a session. Nothing of one session lasts into the next.
 #[derive(Drop)]
