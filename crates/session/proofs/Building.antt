@@ -23,7 +23,7 @@ with_number-keeps s X i is = grind (arith, cases_Bool (i == s), is)
 abbrev HangsWell : Net → List Entry → Type 0
 HangsWell net history =
     (i : ℕ) → ((tables (root_of net) history).up i ≡ root_of net)
-        ⊎ (entered history ((tables (root_of net) history).up i) ≡ true)
+    ⊎ (entered history ((tables (root_of net) history).up i) ≡ true)
 
 -- before any commit that is the root
 hangs_start : (net : Net) → HangsWell net []

@@ -64,7 +64,7 @@ module _ (alone : Bool) (seen0 : List RecordView) (own0 : ℕ)
     open_text = next_text g.open_text front;
     holds = a.taken.holds;
     so_far = whole_line alone seen0 own0 left0 written0 left before now after_left ended met held held2 records after
-      own own2 g.open_text
+        own own2 g.open_text
         g.so_far
         line front a.text clean goes is opens a.taken.quiet a.taken.given a.wrote;
   }

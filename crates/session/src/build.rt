@@ -25,7 +25,7 @@ fn commit(desk: &mut FlowDesk, grow: &mut Growing, net: &Network, router: u32)
     ensures entered { (r : ℕ) → entered grow.new.history r ≡ (entered grow.old.history r || (r == router)) }
 {
     let neighbour = grow.neighbour(router);
-    let mut side = Side::empty(net.routers());
+    let mut side = Side::empty(grow.net().routers());
     let value = desk.least_cut_of_held_uncounted(router, neighbour, &mut side);
     grow.apply(&LeastCut::hold(net, router, neighbour, side, value));
 }

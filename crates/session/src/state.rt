@@ -221,7 +221,7 @@ impl State {
 
     /// Makes the reply to a CUT of two routers of a record.
     fn cut(&mut self, version: u32, seen: Option<&Record>, a: u32, b: u32)
-        requires ends { IsOf (sheet_in (option_copied seen.entry)) (Request.Cut a b) }
+        requires ends { IsOf (sheet_in (option_copied seen)) (Request.Cut a b) }
         ensures reply { RepliesTo (option_copied seen.entry) version (Ok (Request.Cut a b)) self.new.reply }
         ensures intake { self.new.intake ≡ self.old.intake }
     {
@@ -233,7 +233,7 @@ impl State {
 
     /// Makes the reply that tells the network of a record.
     fn tell_network(&mut self, version: u32, seen: Option<&Record>)
-        requires of { IsOf (sheet_in (option_copied seen.entry)) Request.Net }
+        requires of { IsOf (sheet_in (option_copied seen)) Request.Net }
         ensures reply { RepliesTo (option_copied seen.entry) version (Ok Request.Net) self.new.reply }
         ensures intake { self.new.intake ≡ self.old.intake }
     {
@@ -363,7 +363,11 @@ impl State {
             → self.new.reply ≡ loaded_text version made.sheet.net }
         ensures intake { self.new.intake ≡ self.old.intake }
     {
-        loaded_reply(&mut self.reply, version, shelf.record_at(version).sheet().net());
+        loaded_reply(
+            &mut self.reply,
+            version,
+            shelf.record_at(version).sheet().net(),
+        );
     }
 
     /// Makes the reply that is owed where the input ends, and says whether one is.
