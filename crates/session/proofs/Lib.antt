@@ -5,3 +5,4 @@ pub mod Turning
 pub mod Loading
 pub mod Requesting
 pub mod Building
+pub mod Examples

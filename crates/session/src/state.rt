@@ -1,13 +1,10 @@
 //! The state of a session, and what each line does to it. Nothing here reads or writes.
 ghost use Rattle.std.specs.Prelude.{◌≡◌, ◌≢◌, ℕ, ◌+◌, ◌^◌, ◌<◌, ◌≤◌, List, [], None, Some, false};
-ghost use Rattle.std.specs.Prelude.{length, IfOk, Ok, Result, IsFalse, if◌then◌else◌};
+ghost use Rattle.std.specs.Prelude.{length, IfOk, Ok, IsFalse, if◌then◌else◌};
 ghost use Rattle.std.specs.Arc.{arc_value};
 ghost use Rattle.std.specs.Option.{option_copied};
 ghost use Rattle.std.specs.declared.option.Option.{Option};
-ghost use Rattle.network_text.specs.Readings.{IsWant};
-ghost use Rattle.network_text.specs.Sheets.{SheetView};
-ghost use Rattle.network_text.specs.Texts.{verdict_at};
-ghost use Rattle.network_text.specs.declared.fault.TextFault.{TextFault as Fault};
+ghost use Rattle.network_text.specs.Texts.{verdict_of};
 ghost use Rattle.query_lang.specs.Replies.{loaded_text, refused_text};
 ghost use Rattle.query_lang.specs.Requests.{IsOf};
 ghost use Rattle.session.specs.Answers.{IsCutReply, IsTextRefusal, RepliesTo, sheet_in};
@@ -293,11 +290,9 @@ impl State {
     /// Answers a text whose END came.
     fn end_text<H: Shelf>(&mut self, alloc: Global, shelf: &mut H, reader: Reader)
         requires few { reader.progress.lines < 2 ^ 31 }
-        ensures loads { Loads (H.alone shelf.old) (H.seen shelf.old) (H.own shelf.old)
-            (verdict_at reader.ended reader.progress) self.new.reply (H.seen shelf.new) (H.own shelf.new) }
-        ensures lost { IsWant reader.progress.draft → (verdict : Result SheetView Fault)
-            → Loads (H.alone shelf.old) (H.seen shelf.old) (H.own shelf.old) verdict self.new.reply
-            (H.seen shelf.new) (H.own shelf.new) }
+        ensures loads { (text : List (List ℕ)) → HasRead reader.progress text
+            → Loads (H.alone shelf.old) (H.seen shelf.old) (H.own shelf.old) (verdict_of text reader.ended)
+            self.new.reply (H.seen shelf.new) (H.own shelf.new) }
         ensures alone { H.alone shelf.new ≡ H.alone shelf.old }
     {
         match reader.close() {
@@ -379,10 +374,15 @@ impl State {
         ensures alone { H.alone shelf.new ≡ H.alone shelf.old }
     {
         match mem::replace(&mut self.intake, Intake::Between) {
-            Intake::Between => return false,
-            Intake::Text(reader) => self.refuse_unfinished(shelf, reader),
-            Intake::Lost => self.refuse_load(shelf, OUT_OF_MEMORY, None),
+            Intake::Between => false,
+            Intake::Text(reader) => {
+                self.refuse_unfinished(shelf, reader);
+                true
+            }
+            Intake::Lost => {
+                self.refuse_load(shelf, OUT_OF_MEMORY, None);
+                true
+            }
         }
-        true
     }
 }

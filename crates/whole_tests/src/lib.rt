@@ -7,5 +7,7 @@
 #[cfg(test)]
 mod plans;
 #[cfg(test)]
+mod sessions;
+#[cfg(test)]
 mod trees;
 mod words;
