@@ -14,12 +14,17 @@ use Rattle.text_forms.specs.Items.{Item, Ask, Load, Bye}
 use Rattle.tree_versions.specs.Records.{RecordView, Grows, record_at}
 use Rattle.tree_versions.specs.Shelves.{Looks}
 
+-- a number and nothing
+zero_plus : (m : ℕ) → m ≡ 0 + m
+zero_plus m = omega arith
+
 -- two stretches of items, one after the other
 pub Answers-append : (alone : Bool) (records : List RecordView) (xs ys : List Item) (a b c : ℕ)
     (text more : List ℕ) (l m : ℕ)
     → Answers alone records a xs text b l → Answers alone records b ys more c m
     → Answers alone records a (xs ++ ys) (text ++ more) c (l + m)
-Answers-append alone records [] ys a b c text more l m p q = rw p.0 (rw p.2 (rw p.1 at q))
+Answers-append alone records [] ys a b c text more l m p q =
+    rw p.0 (rw p.2 (subst (λ (n : ℕ). Answers alone records a ys more c n) (zero_plus m) (rw p.1 at q)))
 Answers-append alone records (item ∷ xs) ys a b c text more l m p q = record {
   reply = p.reply;
   rest = p.rest ++ more;

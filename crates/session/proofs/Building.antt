@@ -1,7 +1,7 @@
 -- A tree that is built in the order of the routers' numbers.
 use Rattle.std.proofs.Common.{◌≡◌, ◌≢◌, ℕ, suc, ◌+◌, ◌<◌, ◌≤◌, Bool, true, false, ◌||◌, List, [], ◌∷◌, ◌++◌}
 use Rattle.std.proofs.Common.{refl, sym, ap, ◌∙◌, arith, subst, ◌⊎◌, inl, inr}
-use Rattle.std.proofs.lemmas.Bool.{cases_Bool}
+use Rattle.std.proofs.lemmas.Bool.{cases_Bool, cases_eq, eq-eqb, ne_eqb}
 use Rattle.std.specs.Prelude.{◌==◌, ◌&&◌, if◌then◌else◌}
 use Rattle.cut_model.specs.Cuts.{RouterSet, set_of}
 use Rattle.cut_model.specs.Net.{Net}
@@ -97,12 +97,10 @@ built_passed net history router not_due built = record {
 }
   where
     below : (r : ℕ) → r < router + 1 → IsTerminal net r → r ≢ root_of net → entered history r ≡ true
-    below r low terminal not_root = of (r == router) refl
-      where
-        of : (b : Bool) → (r == router) ≡ b → entered history r ≡ true
-        of true is = absurd (let e : r ≡ router = omega (arith, is) in
-            not_due (subst (IsTerminal net) e terminal) (λ at_root. not_root (e ∙ at_root)))
-        of false is = built.below r (omega (arith, low, is)) terminal not_root
+    below r low terminal not_root = elim (cases_eq r router) [
+      | inl e ↦ absurd (not_due (subst (IsTerminal net) e terminal) (λ at_root. not_root (e ∙ at_root)))
+      | inr ne ↦ built.below r (omega (arith, low, ne)) terminal not_root
+    ]
 
 -- a router that was entered is one more
 pub built_more : (net : Net) (old new : List Entry) (router : ℕ)
@@ -110,25 +108,39 @@ pub built_more : (net : Net) (old new : List Entry) (router : ℕ)
     → IsBuiltTo net new (router + 1)
 built_more net old new router more built = record {
   below = λ r low terminal not_root. below r low terminal not_root;
-  above = λ r high. let far : (r == router) ≡ false = omega (arith, high) in
+  above = λ r high.
+      let far : (r == router) ≡ false = ne_eqb r router (λ e. omega (arith, high, e)) in
       more r ∙ ap (λ (b : Bool). b || (r == router)) (built.above r (omega (arith, high))) ∙ far;
 }
   where
+    or_true : (b : Bool) → (b || true) ≡ true
+    or_true true = refl
+    or_true false = refl
+
     below : (r : ℕ) → r < router + 1 → IsTerminal net r → r ≢ root_of net → entered new r ≡ true
-    below r low terminal not_root = of (r == router) refl
-      where
-        of : (b : Bool) → (r == router) ≡ b → entered new r ≡ true
-        of true is = more r ∙ ap (λ (b : Bool). entered old r || b) is ∙ or_true (entered old r)
-          where
-            or_true : (b : Bool) → (b || true) ≡ true
-            or_true true = refl
-            or_true false = refl
-        of false is =
-            let before : entered old r ≡ true = built.below r (omega (arith, low, is)) terminal not_root in
-            more r ∙ ap (λ (b : Bool). b || (r == router)) before
+    below r low terminal not_root = elim (cases_eq r router) [
+      | inl e ↦ (more r ∙ ap (λ (b : Bool). entered old r || b) (eq-eqb r router e) ∙ or_true (entered old r))
+      | inr ne ↦ (more r
+          ∙ ap (λ (b : Bool). b || (r == router)) (built.below r (omega (arith, low, ne)) terminal not_root))
+    ]
 
 -- when all routers are passed, all are entered
 pub built_all : (net : Net) (history : List Entry) (end : ℕ) → net.routers ≤ end → IsBuiltTo net history end
     → AllEntered net history
 built_all net history end all built = λ r terminal not_root.
     built.below r (omega (arith, all, terminal-lt net r terminal)) terminal not_root
+
+-- a history with an entry more
+pub entered_more : (old new : List Entry) (entry : Entry) (router : ℕ) → new ≡ old ++ entry ∷ []
+    → entry.router ≡ router → (r : ℕ) → entered new r ≡ (entered old r || (r == router))
+unfolding with_number
+entered_more old new entry router is named r =
+    let pushed : entered (old ++ entry ∷ []) r ≡ ((r == entry.router) || entered old r) = entered-push old entry r in
+    ap (λ (h : List Entry). entered h r) is ∙ pushed ∙ turned (r == entry.router) (entered old r)
+    ∙ ap (λ (s : ℕ). entered old r || (r == s)) named
+  where
+    turned : (a b : Bool) → (a || b) ≡ (b || a)
+    turned true true = refl
+    turned true false = refl
+    turned false true = refl
+    turned false false = refl

@@ -162,7 +162,7 @@ module _ (alone : Bool) (old new : List RecordView) (own own2 : ℕ) (reply : Li
       of (inr lack) (inr want) = by_want want
       of (inr lack) (inl same) =
           let w = wanted (progress.lines + 1) ended progress.draft lack in
-          let e : Err {SheetView} w.fault ≡ Err fault = sym w.is ∙ same in
+          let e = sym w.is ∙ same in
           let f : w.fault ≡ fault = cc in
           by_want (subst (λ (g : TextFault). g.kind ≡ Memory) f w.memory)
 

@@ -115,9 +115,8 @@ module _ (alone : Bool) (seen0 : List RecordView) (own0 : ℕ)
       g.so_far
       line front a.text a.count passes some is over a.taken.quiet a.taken.given a.wrote
   last_begun line front passes some is over (inr a) =
-      last_bye_breaks left0 written0 left before now after_left ended met held held2 records after
-      (between a.between) a.same
-      line front a.count passes some is over a.bye a.wrote
+      last_bye_breaks alone seen0 own0 left0 written0 left before now after_left ended met held held2 records after own
+      own2 a.text (between a.between) a.given line front a.count passes some is over a.bye a.wrote
 
   -- a line without a line feed was answered, and what is owed behind it was written, or begun
   pub last_closed : {E : Type 0} (r : Result (Unit {0}) E) (then : Option (List ℕ)) (final : List RecordView)

@@ -38,7 +38,7 @@ returns-in-Ok-clause-gives g c = λ seen0 own0 left0 written0 so.
     let read = rw c.in-Ok-Last.field-0-is at c.in-Ok-Last.ensures.reads in
     rw (c.in-Ok.ensures.left, c.in-Ok.ensures.ended)
     (c.in-Ok.ensures.ends seen0 own0 left0 written0 _ (g.P.Source.left c.read_line.new.peer) c.args.reader.now
-    c.read_line.new.reader _ _ read.0 (rw ← c.in-Ok-Last.ensures.written at so)
+    c.read_line.new.reader _ _ read.0 (rw (← c.in-Ok-Last.ensures.written) at so)
     read.1 read.2 (rw c.bytes-in-Ok-Last.ensures.bytes read.3) read.4)
 
 pub returns-in-Err-answer_last-clause-gives : goal.returns-in-Err-answer_last-clause-gives
@@ -46,7 +46,7 @@ returns-in-Err-answer_last-clause-gives g c = λ seen0 own0 left0 written0 so.
     let read = rw c.in-Ok-Last.field-0-is at c.in-Ok-Last.ensures.reads in
     rw (c.in-Err-answer_last.ensures.left, c.in-Err-answer_last.ensures.ended)
     (c.in-Err-answer_last.ensures.ends seen0 own0 left0 written0 _ (g.P.Source.left c.read_line.new.peer)
-    c.args.reader.now c.read_line.new.reader _ _ read.0 (rw ← c.in-Ok-Last.ensures.written at so)
+    c.args.reader.now c.read_line.new.reader _ _ read.0 (rw (← c.in-Ok-Last.ensures.written) at so)
     read.1 read.2 (rw c.bytes-in-Ok-Last.ensures.bytes read.3) read.4)
 
 pub returns-in-Ok-close_input-clause-gives : goal.returns-in-Ok-close_input-clause-gives
@@ -74,11 +74,11 @@ returns-in-Ok-TooMuch-clause-gives g c = λ seen0 own0 left0 written0 so.
     let unmet = unmet_at c.read_line.new.reader _ (omega (arith, read.2)) (opens so.so_far.unmet (inr refl)) in
     rw c.in-Ok-TooMuch.ensures.written
     (spent _ seen0 own0 left0 written0 _ _ _ _ _ _ _ _ _ _ _ _ c.args.state.now.intake c.args.state.now.intake so
-    read.0 read.1 unmet read.2 (Appends-nil _) (Gives-still _ _ _ (g.H.Shelf.few c.args.shelf.now)))
+    read.0 read.1 unmet read.2 (Appends-nil _) (Gives-still _ _ _ (g.met.H.Shelf.few c.args.shelf.now)))
 
 pub returns-in-Err-clause-gives : goal.returns-in-Err-clause-gives
 returns-in-Err-clause-gives g c = λ seen0 own0 left0 written0 so.
     let read = c.in-Err.ensures.reads in
     rw c.in-Err.ensures.written
     (failed _ seen0 own0 left0 written0 _ _ _ _ _ _ _ _ _ _ _ _ c.args.state.now.intake c.args.state.now.intake so
-    read.0 read.1 read.2 read.3 (Appends-nil _) (Gives-still _ _ _ (g.H.Shelf.few c.args.shelf.now)))
+    read.0 read.1 read.2 read.3 (Appends-nil _) (Gives-still _ _ _ (g.met.H.Shelf.few c.args.shelf.now)))
