@@ -16,5 +16,5 @@ loop-router-init c = record {
 pub returns-clause-all : goal.returns-clause-all
 returns-clause-all c =
     let kept = c.loop-router.invariant in
-    subst (λ (n : Net). AllEntered n _) (sym kept.net)
-    (built_all c.args.net.now _ _ (omega (arith, c.routers-router-end.ensures.value)) kept.built)
+    subst (λ (n : Net). AllEntered n c.loop-router.grow.history) (sym kept.net)
+    (built_all c.args.net.now c.loop-router.grow.history _ (omega (arith, c.routers-router-end.ensures.value)) kept.built)

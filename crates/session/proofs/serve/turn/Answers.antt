@@ -74,11 +74,11 @@ returns-in-Ok-TooMuch-clause-gives g c = λ seen0 own0 left0 written0 so.
     let unmet = unmet_at c.read_line.new.reader _ (omega (arith, read.2)) (opens so.so_far.unmet (inr refl)) in
     rw c.in-Ok-TooMuch.ensures.written
     (spent _ seen0 own0 left0 written0 _ _ _ _ _ _ _ _ _ _ _ _ c.args.state.now.intake c.args.state.now.intake so
-    read.0 read.1 unmet read.2 (Appends-nil _) (Gives-still _ _ _ (g.met.H.Shelf.few c.args.shelf.now)))
+    read.0 read.1 unmet read.2 (Appends-nil _) (Gives-still _ _ _ (g.H.Shelf.few c.args.shelf.now)))
 
 pub returns-in-Err-clause-gives : goal.returns-in-Err-clause-gives
 returns-in-Err-clause-gives g c = λ seen0 own0 left0 written0 so.
     let read = c.in-Err.ensures.reads in
     rw c.in-Err.ensures.written
     (failed _ seen0 own0 left0 written0 _ _ _ _ _ _ _ _ _ _ _ _ c.args.state.now.intake c.args.state.now.intake so
-    read.0 read.1 read.2 read.3 (Appends-nil _) (Gives-still _ _ _ (g.met.H.Shelf.few c.args.shelf.now)))
+    read.0 read.1 read.2 read.3 (Appends-nil _) (Gives-still _ _ _ (g.H.Shelf.few c.args.shelf.now)))

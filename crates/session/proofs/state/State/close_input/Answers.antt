@@ -9,7 +9,7 @@ use Rattle.session.proofs.state.State.close_input.Goals as goal
 
 pub returns-in-Between-clause-owed : goal.returns-in-Between-clause-owed
 returns-in-Between-clause-owed g c = λ open_text h.
-    closing_between _ _ _ (g.met.H.Shelf.few c.args.shelf.now) open_text
+    closing_between _ _ _ (g.H.Shelf.few c.args.shelf.now) open_text
     (subst (λ (i : Intake). Holds i open_text) (sym c.in-Between.ensures.value) h)
 
 pub returns-in-Text-clause-owed : goal.returns-in-Text-clause-owed
@@ -28,6 +28,6 @@ returns-in-Lost-clause-owed g c = λ open_text h.
     (g.H.Shelf.own c.args.shelf.now) m c.refuse_load.new.self.reply
     (g.H.Shelf.seen c.refuse_load.new.shelf) (g.H.Shelf.own c.refuse_load.new.shelf))
     (λ text. Loads-gives _ _ _ _ _ text false _
-    (want_loads _ _ _ _ _ _ (g.met.H.Shelf.few c.refuse_load.new.shelf) c.refuse_load.ensures.looks
+    (want_loads _ _ _ _ _ _ (g.H.Shelf.few c.refuse_load.new.shelf) c.refuse_load.ensures.looks
     c.refuse_load.ensures.own (verdict_of text false) c.refuse_load.ensures.reply))
     open_text (subst (λ (i : Intake). Holds i open_text) (sym c.in-Lost.ensures.value) h)
