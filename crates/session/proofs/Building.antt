@@ -54,7 +54,8 @@ hangs_push : (net : Net) (before : List Entry) (entry : Entry) → HangsWell net
     → HangsWell net (before ++ entry ∷ [])
 hangs_push net before entry hangs may i =
     subst (λ (T : Tables). Well (T.up i)) (sym (tables-push (root_of net) before entry))
-    (up_after-cases (root_of net) (tables (root_of net) before).up entry.router entry.neighbour (set_of entry.side) Well
+    (up_after-cases (root_of net) (tables (root_of net) before).up entry.router entry.neighbour
+    (set_of entry.side) Well
     (λ j. more ((tables (root_of net) before).up j) (hangs j)) (inr here)
     (subst Well (sym may.neighbour) (more ((tables (root_of net) before).up entry.router) (hangs entry.router))) i)
   where

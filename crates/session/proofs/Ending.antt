@@ -105,7 +105,8 @@ module _ (alone : Bool) (seen0 : List RecordView) (own0 : ℕ)
   whole_line line front out clean goes is opens quiet given wrote =
       let quiet' : IsQuiet open_text (front_of line) = subst (IsQuiet open_text) is quiet in
       let given' = subst (λ (f : List ℕ). Gives alone records own (gives open_text f) out after own2) is given in
-      subst (λ (f : List ℕ). SoFar alone seen0 own0 left0 written0 held2 after_left met now after own2 (next_text open_text f)) (sym is)
+      subst (λ (f : List ℕ). SoFar alone seen0 own0 left0 written0 held2 after_left met now after own2
+      (next_text open_text f)) (sym is)
       (record {
         bytes = s.bytes ++ (line ++ 10 ∷ []);
         text = s.text ++ out;
@@ -130,7 +131,8 @@ module _ (alone : Bool) (seen0 : List RecordView) (own0 : ℕ)
       (line_items alone seen0 own0 s.bytes s.text records own open_text s.serves met line held2.bytes clean
       (subst (IsQuiet open_text) is quiet))
       (gives-one open_text (front_of line))
-      (subst (λ (f : List ℕ). Gives alone records own (gives open_text f) out after own2) is given) (taken_line line goes) wrote
+      (subst (λ (f : List ℕ). Gives alone records own (gives open_text f) out after own2) is given)
+      (taken_line line goes) wrote
 
   -- the input ended between two lines, and what is owed then was written
   pub end_whole : (owed : List ℕ) → Passes held left held2 after_left [] → IsOver met after_left
@@ -138,7 +140,8 @@ module _ (alone : Bool) (seen0 : List RecordView) (own0 : ℕ)
       → Appends written now owed → EndsWhole left0 written0 after_left met now alone seen0 own0 after own2
   end_whole owed passes over given wrote =
       ends_by (IsComplete met after_left) s.bytes owed (items_from true open_text [])
-      (ap (λ e. items_of e s.bytes) over.0 ∙ end_items alone seen0 own0 s.bytes s.text records own open_text s.serves) given
+      (ap (λ e. items_of e s.bytes) over.0 ∙ end_items alone seen0 own0 s.bytes s.text records own open_text
+      s.serves) given
       (subst (Consumes left0 after_left) (append-nil s.bytes) (taken_part [] passes)) wrote (inr over)
 
   -- and a part of it was written
@@ -163,9 +166,11 @@ module _ (alone : Bool) (seen0 : List RecordView) (own0 : ℕ)
       breaks_by (s.bytes ++ b ∷ line) out (gives open_text (front_of (b ∷ line)))
       (items_from true (next_text open_text (front_of (b ∷ line))) []) count
       (ap (λ e. items_of e (s.bytes ++ b ∷ line)) over.0
-      ∙ last_items alone seen0 own0 s.bytes s.text records own open_text s.serves b line passes.clean (subst (IsQuiet open_text) is quiet))
+      ∙ last_items alone seen0 own0 s.bytes s.text records own open_text s.serves b line passes.clean (subst
+      (IsQuiet open_text) is quiet))
       (gives-one open_text (front_of (b ∷ line)))
-      (subst (λ (f : List ℕ). Gives alone records own (gives open_text f) out after own2) is given) (taken_part (b ∷ line) passes)
+      (subst (λ (f : List ℕ). Gives alone records own (gives open_text f) out after own2) is given) (taken_part
+      (b ∷ line) passes)
       wrote
 
   -- a part of a line came, and no more
@@ -175,7 +180,8 @@ module _ (alone : Bool) (seen0 : List RecordView) (own0 : ℕ)
       → Ends P left0 written0 after_left met now (IsServed alone seen0 own0 after own2)
   stops P line passes unmet wrote given why =
       let items : items_of met (s.bytes ++ line) ≡ s.serves.done =
-      ap (λ e. items_of e (s.bytes ++ line)) unmet ∙ stops_items alone seen0 own0 s.bytes s.text records own open_text s.serves line
+      ap (λ e. items_of e (s.bytes ++ line)) unmet ∙ stops_items alone seen0 own0 s.bytes s.text records own
+      open_text s.serves line
       passes.clean in
       let count : length (s.bytes ++ line) ≡ held2.taken =
       omega (arith, s.count, passes.goes.count, ap length passes.spent, length-append s.bytes line) in
@@ -185,7 +191,8 @@ module _ (alone : Bool) (seen0 : List RecordView) (own0 : ℕ)
       (subst (λ (is : List Item). P (s.bytes ++ line) is) (sym items) (why count s.serves.quiet))
 
   -- the last line, which has no line feed, was answered, and what is owed then was written
-  pub last_line_ends : (mid : List RecordView) (own1 : ℕ) (line front out owed : List ℕ) → Passes held left held2 after_left line
+  pub last_line_ends : (mid : List RecordView) (own1 : ℕ) (line front out owed : List ℕ)
+      → Passes held left held2 after_left line
       → 0 < length line
       → front ≡ front_of line → IsOver met after_left → IsQuiet open_text front
       → Gives alone records own (gives open_text front) out mid own1
@@ -197,7 +204,8 @@ module _ (alone : Bool) (seen0 : List RecordView) (own0 : ℕ)
       let last = items_from true (next_text open_text front) [] in
       let next_line : items_of met (s.bytes ++ b ∷ line) ≡ s.serves.done ++ (gives open_text front ++ last) =
       ap (λ e. items_of e (s.bytes ++ b ∷ line)) over.0
-      ∙ last_items alone seen0 own0 s.bytes s.text records own open_text s.serves b line passes.clean (subst (IsQuiet open_text) is quiet)
+      ∙ last_items alone seen0 own0 s.bytes s.text records own open_text s.serves b line passes.clean (subst
+      (IsQuiet open_text) is quiet)
       ∙ ap (λ (f : List ℕ). (s.serves.done ++ gives open_text f) ++ items_from true (next_text open_text f) [])
       (sym is)
       ∙ append_assoc s.serves.done (gives open_text front) last in
@@ -260,7 +268,8 @@ module _ (alone : Bool) (seen0 : List RecordView) (own0 : ℕ)
   line_bye line front clean is bye =
       let joined : (s.bytes ++ (line ++ 10 ∷ [])) ++ held2.bytes ≡ s.bytes ++ (line ++ 10 ∷ held2.bytes) =
       simp append_assoc in
-      ap (items_of met) joined ∙ bye_items alone seen0 own0 s.bytes s.text records own s.serves met line held2.bytes clean
+      ap (items_of met) joined ∙ bye_items alone seen0 own0 s.bytes s.text records own s.serves met line held2.bytes
+      clean
       (subst IsByeLine is bye)
 
   -- the items of a BYE that the end of the input ends
@@ -268,7 +277,8 @@ module _ (alone : Bool) (seen0 : List RecordView) (own0 : ℕ)
       → IsByeLine front
       → items_of met (s.bytes ++ b ∷ line) ≡ s.serves.done ++ Bye ∷ []
   last_bye b line front clean is over bye =
-      ap (λ e. items_of e (s.bytes ++ b ∷ line)) over.0 ∙ bye_last_items alone seen0 own0 s.bytes s.text records own s.serves b line
+      ap (λ e. items_of e (s.bytes ++ b ∷ line)) over.0 ∙ bye_last_items alone seen0 own0 s.bytes s.text records own
+      s.serves b line
       clean (subst IsByeLine is bye)
 
   -- a whole line BYE was answered
@@ -281,7 +291,8 @@ module _ (alone : Bool) (seen0 : List RecordView) (own0 : ℕ)
       (IsComplete met after_left)
       ((s.bytes ++ (line ++ 10 ∷ [])) ++ held2.bytes) reply (Bye ∷ [])
       (line_bye line front clean is bye) given
-      (taken_line alone seen0 own0 left0 written0 left written now after_left ended met held held2 records after own own2
+      (taken_line alone seen0 own0 left0 written0 left written now after_left ended met held held2 records after own
+      own2
       None s line goes) wrote
       (inl (s.serves.done, line_bye line front clean is bye))
 
@@ -290,11 +301,13 @@ module _ (alone : Bool) (seen0 : List RecordView) (own0 : ℕ)
       → Goes held left held2 after_left (line ++ 10 ∷ []) → front ≡ front_of line → IsByeLine front
       → Appends written now (take count reply) → Breaks left0 written0 after_left met now alone seen0 own0 after own2
   bye_breaks line front count clean goes is bye wrote =
-      breaks_by alone seen0 own0 left0 written0 left written now after_left ended met held held2 records after own own2
+      breaks_by alone seen0 own0 left0 written0 left written now after_left ended met held held2 records after own
+      own2
       None s
       ((s.bytes ++ (line ++ 10 ∷ [])) ++ held2.bytes) reply (Bye ∷ []) [] count
       (line_bye line front clean is bye ∙ sym (append-nil (s.serves.done ++ Bye ∷ []))) (omega arith) given
-      (taken_line alone seen0 own0 left0 written0 left written now after_left ended met held held2 records after own own2
+      (taken_line alone seen0 own0 left0 written0 left written now after_left ended met held held2 records after own
+      own2
       None s line goes) wrote
 
   -- a BYE that the end of the input ends was answered
@@ -308,7 +321,8 @@ module _ (alone : Bool) (seen0 : List RecordView) (own0 : ℕ)
       (IsComplete met after_left)
       (s.bytes ++ b ∷ line) reply (Bye ∷ []) (last_bye b line front passes.clean is over bye)
       given
-      (taken_part alone seen0 own0 left0 written0 left written now after_left ended met held held2 records after own own2
+      (taken_part alone seen0 own0 left0 written0 left written now after_left ended met held held2 records after own
+      own2
       None s (b ∷ line)
       passes) wrote
       (inl (s.serves.done, last_bye b line front passes.clean is over bye))
@@ -319,11 +333,13 @@ module _ (alone : Bool) (seen0 : List RecordView) (own0 : ℕ)
       → Appends written now (take count reply) → Breaks left0 written0 after_left met now alone seen0 own0 after own2
   last_bye_breaks [] front count passes some is over bye wrote = absurd (omega arith)
   last_bye_breaks (b ∷ line) front count passes some is over bye wrote =
-      breaks_by alone seen0 own0 left0 written0 left written now after_left ended met held held2 records after own own2
+      breaks_by alone seen0 own0 left0 written0 left written now after_left ended met held held2 records after own
+      own2
       None s
       (s.bytes ++ b ∷ line) reply (Bye ∷ []) [] count
       (last_bye b line front passes.clean is over bye ∙ sym (append-nil (s.serves.done ++ Bye ∷ []))) (omega arith)
       given
-      (taken_part alone seen0 own0 left0 written0 left written now after_left ended met held held2 records after own own2
+      (taken_part alone seen0 own0 left0 written0 left written now after_left ended met held held2 records after own
+      own2
       None s (b ∷ line)
       passes) wrote

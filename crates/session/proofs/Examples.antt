@@ -47,7 +47,11 @@ items_are = refl
 
 -- the record that it publishes
 abbrev made : RecordView
-made = record { sheet = sheet; history = record { router = 1; neighbour = 0; value = 5; side = false ∷ true ∷ [] } ∷ [] }
+made = record {
+  sheet = sheet;
+  history = record { router = 1; neighbour = 0; value = 5; side = false ∷ true ∷ [] } ∷
+      [];
+}
 
 -- a reply by version 1 that publishes nothing
 by_first : (P : Type 0) → P → IsTold true (made ∷ []) 1 1 0 P

@@ -139,7 +139,7 @@ module _ (alone : Bool) (old new : List RecordView) (own own2 : ℕ) (reply : Li
       of (inr want) =
           let w = wanted (progress.lines + 1) ended progress.draft want in
           absurd (let e : Err w.fault ≡ Ok sheet =
-              sym w.is ∙ closes_ok (verdict_at ended progress) sheet closes in cc)
+          sym w.is ∙ closes_ok (verdict_at ended progress) sheet closes in cc)
 
   -- the fault of a reader is that of the text, or want of memory
   pub closed_err : length new ≤ 256 → Looks alone old new → own2 ≡ own → (fault : TextFault)
@@ -167,7 +167,8 @@ module _ (alone : Bool) (old new : List RecordView) (own own2 : ℕ) (reply : Li
           by_want (subst (λ (g : TextFault). g.kind ≡ Memory) f w.memory)
 
 -- a line that ends a text was taken
-pub ended_taken : (alone : Bool) (old new : List RecordView) (own own2 : ℕ) (text : List (List ℕ)) (line reply : List ℕ)
+pub ended_taken : (alone : Bool) (old new : List RecordView) (own own2 : ℕ) (text : List (List ℕ))
+    (line reply : List ℕ)
     → is_end line ≡ true → Loads alone old own (verdict_of text true) reply new own2
     → IsTaken alone old own new own2 (Some text) Between line reply
 ended_taken alone old new own own2 text line reply end loads = record {

@@ -99,56 +99,57 @@ ends-one None = omega arith
 ends-one (Some text) = omega arith
 
 module _ (alone : Bool) (seen0 : List RecordView) (own0 : ℕ) (bytes text : List ℕ) (records : List RecordView)
-    (own : ℕ) (open_text : Option (List (List ℕ))) (s : Serves alone seen0 own0 bytes text records own open_text) where
-  -- the items behind a whole line
-  pub line_items : (ended : Bool) (line more : List ℕ) → NoFeed line → IsQuiet open_text (front_of line)
-      → items_of ended ((bytes ++ (line ++ 10 ∷ [])) ++ more)
-      ≡ (s.done ++ gives open_text (front_of line)) ++ items_on ended (next_text open_text (front_of line)) more
-  line_items ended line more clean quiet =
-      let front = front_of line in
-      let joined : (bytes ++ (line ++ 10 ∷ [])) ++ more ≡ bytes ++ (line ++ 10 ∷ more) = simp append_assoc in
-      ap (items_of ended) joined ∙ s.items ended (line ++ 10 ∷ more)
-      ∙ ap (λ ls. s.done ++ items_from ended open_text ls) (fronts_of-line ended line more clean)
-      ∙ ap (λ is. s.done ++ is) (items_from-line ended open_text front (fronts_of ended more) quiet)
-      ∙ sym (append_assoc s.done (gives open_text front) (items_on ended (next_text open_text front) more))
+    (own : ℕ) (open_text : Option (List (List ℕ))) (s : Serves alone seen0 own0 bytes text records own open_text)
+  where
+    -- the items behind a whole line
+    pub line_items : (ended : Bool) (line more : List ℕ) → NoFeed line → IsQuiet open_text (front_of line)
+        → items_of ended ((bytes ++ (line ++ 10 ∷ [])) ++ more)
+        ≡ (s.done ++ gives open_text (front_of line)) ++ items_on ended (next_text open_text (front_of line)) more
+    line_items ended line more clean quiet =
+        let front = front_of line in
+        let joined : (bytes ++ (line ++ 10 ∷ [])) ++ more ≡ bytes ++ (line ++ 10 ∷ more) = simp append_assoc in
+        ap (items_of ended) joined ∙ s.items ended (line ++ 10 ∷ more)
+        ∙ ap (λ ls. s.done ++ items_from ended open_text ls) (fronts_of-line ended line more clean)
+        ∙ ap (λ is. s.done ++ is) (items_from-line ended open_text front (fronts_of ended more) quiet)
+        ∙ sym (append_assoc s.done (gives open_text front) (items_on ended (next_text open_text front) more))
 
-  -- the session goes on by a whole line that is no BYE
-  pub goes_on : (after : List RecordView) (own2 : ℕ) (line out : List ℕ) → NoFeed line
-      → IsQuiet open_text (front_of line) → Gives alone records own (gives open_text (front_of line)) out after own2
-      → Serves alone seen0 own0 (bytes ++ (line ++ 10 ∷ [])) (text ++ out) after own2
-      (next_text open_text (front_of line))
-  goes_on after own2 line out clean quiet given = record {
-    done = s.done ++ gives open_text (front_of line);
-    quiet = NoBye-append s.done (gives open_text (front_of line)) s.quiet (gives-quiet open_text (front_of line));
-    items = λ ended more. line_items ended line more clean quiet;
-    answered = IsServed-on alone seen0 own0 records after own own2 s.done (gives open_text (front_of line)) text out
-        s.answered given;
-  }
+    -- the session goes on by a whole line that is no BYE
+    pub goes_on : (after : List RecordView) (own2 : ℕ) (line out : List ℕ) → NoFeed line
+        → IsQuiet open_text (front_of line) → Gives alone records own (gives open_text (front_of line)) out after own2
+        → Serves alone seen0 own0 (bytes ++ (line ++ 10 ∷ [])) (text ++ out) after own2
+        (next_text open_text (front_of line))
+    goes_on after own2 line out clean quiet given = record {
+      done = s.done ++ gives open_text (front_of line);
+      quiet = NoBye-append s.done (gives open_text (front_of line)) s.quiet (gives-quiet open_text (front_of line));
+      items = λ ended more. line_items ended line more clean quiet;
+      answered = IsServed-on alone seen0 own0 records after own own2 s.done (gives open_text (front_of line)) text out
+          s.answered given;
+    }
 
-  -- the items of bytes that end behind a line without a line feed
-  pub last_items : (b : ℕ) (line : List ℕ) → NoFeed (b ∷ line) → IsQuiet open_text (front_of (b ∷ line))
-      → items_of true (bytes ++ b ∷ line)
-      ≡ (s.done ++ gives open_text (front_of (b ∷ line))) ++ items_from true
-      (next_text open_text (front_of (b ∷ line))) []
-  last_items b line clean quiet =
-      let front = front_of (b ∷ line) in
-      s.items true (b ∷ line) ∙ ap (λ ls. s.done ++ items_from true open_text ls) (fronts_of-last b line clean)
-      ∙ ap (λ is. s.done ++ is) (items_from-line true open_text front [] quiet)
-      ∙ sym (append_assoc s.done (gives open_text front) (items_from true (next_text open_text front) []))
+    -- the items of bytes that end behind a line without a line feed
+    pub last_items : (b : ℕ) (line : List ℕ) → NoFeed (b ∷ line) → IsQuiet open_text (front_of (b ∷ line))
+        → items_of true (bytes ++ b ∷ line)
+        ≡ (s.done ++ gives open_text (front_of (b ∷ line))) ++ items_from true
+        (next_text open_text (front_of (b ∷ line))) []
+    last_items b line clean quiet =
+        let front = front_of (b ∷ line) in
+        s.items true (b ∷ line) ∙ ap (λ ls. s.done ++ items_from true open_text ls) (fronts_of-last b line clean)
+        ∙ ap (λ is. s.done ++ is) (items_from-line true open_text front [] quiet)
+        ∙ sym (append_assoc s.done (gives open_text front) (items_from true (next_text open_text front) []))
 
-  -- the items where the input ends between two lines
-  pub end_items : items_of true bytes ≡ s.done ++ items_from true open_text []
-  end_items = ap (items_of true) (sym (append-nil bytes)) ∙ s.items true []
+    -- the items where the input ends between two lines
+    pub end_items : items_of true bytes ≡ s.done ++ items_from true open_text []
+    end_items = ap (items_of true) (sym (append-nil bytes)) ∙ s.items true []
 
-  -- a part of a line makes no item while the input goes on
-  pub stops_items : (line : List ℕ) → NoFeed line → items_of false (bytes ++ line) ≡ s.done
-  stops_items line clean =
-      s.items false line ∙ ap (λ ls. s.done ++ items_from false open_text ls) (fronts_of-open line clean)
-      ∙ ap (λ is. s.done ++ is) (nothing open_text) ∙ append-nil s.done
-    where
-      nothing : (m : Option (List (List ℕ))) → items_from false m [] ≡ []
-      nothing None = refl
-      nothing (Some t) = refl
+    -- a part of a line makes no item while the input goes on
+    pub stops_items : (line : List ℕ) → NoFeed line → items_of false (bytes ++ line) ≡ s.done
+    stops_items line clean =
+        s.items false line ∙ ap (λ ls. s.done ++ items_from false open_text ls) (fronts_of-open line clean)
+        ∙ ap (λ is. s.done ++ is) (nothing open_text) ∙ append-nil s.done
+      where
+        nothing : (m : Option (List (List ℕ))) → items_from false m [] ≡ []
+        nothing None = refl
+        nothing (Some t) = refl
 
 module _ (alone : Bool) (seen0 : List RecordView) (own0 : ℕ) (bytes text : List ℕ) (records : List RecordView)
     (own : ℕ) (s : Serves alone seen0 own0 bytes text records own None) where

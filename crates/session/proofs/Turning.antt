@@ -52,13 +52,15 @@ module _ (alone : Bool) (seen0 : List RecordView) (own0 : ℕ)
     (g : GoesOn alone seen0 own0 left0 written0 held left ended before records own intake) where
   -- between two items a session so far has no open text
   between : g.open_text ≡ None → SoFar alone seen0 own0 left0 written0 held left ended before records own None
-  between none = subst (λ (m : Option (List (List ℕ))). SoFar alone seen0 own0 left0 written0 held left ended before records own m) none
+  between none = subst (λ (m : Option (List (List ℕ))). SoFar alone seen0 own0 left0 written0 held left ended before
+      records own m) none
       g.so_far
 
   -- a whole line was answered
   pub line_answered : (line front : List ℕ) → NoFeed line → Goes held left held2 after_left (line ++ 10 ∷ [])
       → front ≡ front_of line
-      → (IsOpen held ended → IsOpen held2 met) → IsAnswered alone records own after own2 g.open_text next front before now
+      → (IsOpen held ended → IsOpen held2 met) → IsAnswered alone records own after own2 g.open_text next front
+      before now
       → GoesOn alone seen0 own0 left0 written0 held2 after_left met now after own2 next
   line_answered line front clean goes is opens a = record {
     open_text = next_text g.open_text front;
@@ -72,7 +74,8 @@ module _ (alone : Bool) (seen0 : List RecordView) (own0 : ℕ)
   -- a whole line BYE was answered
   pub bye_answered : (line front : List ℕ) → NoFeed line → Goes held left held2 after_left (line ++ 10 ∷ [])
       → front ≡ front_of line
-      → IsByeAnswered alone records own after own2 g.open_text front before now → EndsWhole left0 written0 after_left met now alone seen0 own0 after own2
+      → IsByeAnswered alone records own after own2 g.open_text front before now
+      → EndsWhole left0 written0 after_left met now alone seen0 own0 after own2
   bye_answered line front clean goes is a =
       bye_ends alone seen0 own0 left0 written0 left before now after_left ended met held held2 records after own own2
       a.text (between a.between) a.given
@@ -81,7 +84,8 @@ module _ (alone : Bool) (seen0 : List RecordView) (own0 : ℕ)
   -- the reply to a whole line was begun
   pub line_begun : (line front : List ℕ) → NoFeed line → Goes held left held2 after_left (line ++ 10 ∷ [])
       → front ≡ front_of line
-      → IsBegun alone records own after own2 g.open_text next front before now ⊎ IsByeBegun alone records own after own2 g.open_text front before now
+      → IsBegun alone records own after own2 g.open_text next front before now ⊎ IsByeBegun alone records own after
+      own2 g.open_text front before now
       → Breaks left0 written0 after_left met now alone seen0 own0 after own2
   line_begun line front clean goes is (inl a) =
       whole_line_breaks alone seen0 own0 left0 written0 left before now after_left ended met held held2 records after
@@ -89,7 +93,8 @@ module _ (alone : Bool) (seen0 : List RecordView) (own0 : ℕ)
       g.so_far
       line front a.text a.count clean goes is a.taken.quiet a.taken.given a.wrote
   line_begun line front clean goes is (inr a) =
-      bye_breaks alone seen0 own0 left0 written0 left before now after_left ended met held held2 records after own own2
+      bye_breaks alone seen0 own0 left0 written0 left before now after_left ended met held held2 records after own
+      own2
       a.text (between a.between) a.given
       line front a.count clean goes is a.bye a.wrote
 
@@ -99,7 +104,8 @@ module _ (alone : Bool) (seen0 : List RecordView) (own0 : ℕ)
       → IsOver met after_left → IsByeAnswered alone records own after own2 g.open_text front before now
       → EndsWhole left0 written0 after_left met now alone seen0 own0 after own2
   last_bye_answered line front passes some is over a =
-      last_bye_ends alone seen0 own0 left0 written0 left before now after_left ended met held held2 records after own own2
+      last_bye_ends alone seen0 own0 left0 written0 left before now after_left ended met held held2 records after
+      own own2
       a.text (between a.between) a.given
       line front passes some is over a.bye a.wrote
 
@@ -107,7 +113,8 @@ module _ (alone : Bool) (seen0 : List RecordView) (own0 : ℕ)
   pub last_begun : (line front : List ℕ) → Passes held left held2 after_left line → 0 < length line
       → front ≡ front_of line
       → IsOver met after_left
-      → IsBegun alone records own after own2 g.open_text next front before now ⊎ IsByeBegun alone records own after own2 g.open_text front before now
+      → IsBegun alone records own after own2 g.open_text next front before now ⊎ IsByeBegun alone records own after
+      own2 g.open_text front before now
       → Breaks left0 written0 after_left met now alone seen0 own0 after own2
   last_begun line front passes some is over (inl a) =
       last_line_breaks alone seen0 own0 left0 written0 left before now after_left ended met held held2 records after
@@ -115,7 +122,8 @@ module _ (alone : Bool) (seen0 : List RecordView) (own0 : ℕ)
       g.so_far
       line front a.text a.count passes some is over a.taken.quiet a.taken.given a.wrote
   last_begun line front passes some is over (inr a) =
-      last_bye_breaks alone seen0 own0 left0 written0 left before now after_left ended met held held2 records after own
+      last_bye_breaks alone seen0 own0 left0 written0 left before now after_left ended met held held2 records after
+      own
       own2 a.text (between a.between) a.given line front a.count passes some is over a.bye a.wrote
 
   -- a line without a line feed was answered, and what is owed behind it was written, or begun
@@ -128,7 +136,8 @@ module _ (alone : Bool) (seen0 : List RecordView) (own0 : ℕ)
       (λ _. Breaks left0 written0 after_left met then alone seen0 own0 final own3)
   last_closed (Ok u) then final own3 line front passes some is over a c =
       last_line_ends alone seen0 own0 left0 written0 left before then after_left ended met held held2 records final
-      own own3 g.open_text g.so_far after own2 line front a.text c.owed passes some is over a.taken.quiet a.taken.given
+      own own3 g.open_text g.so_far after own2 line front a.text c.owed passes some is over a.taken.quiet
+      a.taken.given
       c.closing (Appends-trans before now then a.text c.owed a.wrote c.wrote)
   last_closed (Err e) then final own3 line front passes some is over a c =
       closing_breaks alone seen0 own0 left0 written0 left before then after_left ended met held held2 records final
@@ -136,7 +145,8 @@ module _ (alone : Bool) (seen0 : List RecordView) (own0 : ℕ)
       a.taken.given c.closing (Appends-trans before now then a.text (take c.wrote.0 c.owed) a.wrote c.wrote.1)
 
   -- the input ended between two lines, and what is owed then was written
-  pub end_closed : {E : Type 0} (result : Result (Unit {0}) E) (done : Unit {0}) → Passes held left held2 after_left []
+  pub end_closed : {E : Type 0} (result : Result (Unit {0}) E) (done : Unit {0})
+      → Passes held left held2 after_left []
       → IsOver met after_left → result ≡ Ok done
       → Closed alone records own after own2 g.open_text before now result
       → EndsWhole left0 written0 after_left met now alone seen0 own0 after own2
@@ -152,7 +162,8 @@ module _ (alone : Bool) (seen0 : List RecordView) (own0 : ℕ)
       → Breaks left0 written0 after_left met now alone seen0 own0 after own2
   end_begun (Ok u) fault passes over err c = absurd (cc)
   end_begun (Err e) fault passes over err c =
-      end_breaks alone seen0 own0 left0 written0 left before now after_left ended met held held2 records after own own2
+      end_breaks alone seen0 own0 left0 written0 left before now after_left ended met held held2 records after own
+      own2
       g.open_text g.so_far c.owed c.wrote.0 passes over c.closing c.wrote.1
 
   -- the source failed

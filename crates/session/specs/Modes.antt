@@ -53,7 +53,8 @@ pub record Loads (alone : Bool) (old : List RecordView) (own : ℕ) (verdict : R
 
 -- The records begin with those that were seen at the start, the text answers the items from their last version on, and
 -- the number of records that were published grew by the accepted LOADs.
-pub record IsServed (alone : Bool) (seen0 : List RecordView) (own0 : ℕ) (records : List RecordView) (own : ℕ) (items : List Item)
+pub record IsServed (alone : Bool) (seen0 : List RecordView) (own0 : ℕ) (records : List RecordView) (own : ℕ)
+    (items : List Item)
     (text : List ℕ) : Type 0 where
   pub loads : ℕ
   pub grows : Grows seen0 records
@@ -62,7 +63,8 @@ pub record IsServed (alone : Bool) (seen0 : List RecordView) (own0 : ℕ) (recor
 
 -- The bytes were answered by the text, up to a text that is open. Whatever bytes come, the whole items are those
 -- that are done and then those from here on.
-pub record Serves (alone : Bool) (seen0 : List RecordView) (own0 : ℕ) (bytes text : List ℕ) (records : List RecordView) (own : ℕ)
+pub record Serves (alone : Bool) (seen0 : List RecordView) (own0 : ℕ) (bytes text : List ℕ)
+    (records : List RecordView) (own : ℕ)
     (open_text : Option (List (List ℕ))) : Type 0 where
   pub done : List Item
   pub quiet : NoBye done

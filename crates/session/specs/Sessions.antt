@@ -71,19 +71,22 @@ pub record Breaks (left0 written0 left : Option (List ℕ)) (ended : Bool) (writ
   pub wrote : Appends written0 written (text ++ take count reply)
 
 -- a session that read to its end, or to a BYE
-abbrev pub EndsWhole : Option (List ℕ) → Option (List ℕ) → Option (List ℕ) → Bool → Option (List ℕ) → Bool → List RecordView
+abbrev pub EndsWhole : Option (List ℕ) → Option (List ℕ) → Option (List ℕ) → Bool → Option (List ℕ) → Bool
+    → List RecordView
     → ℕ → List RecordView → ℕ → Type 0
 EndsWhole left0 written0 left ended written alone seen0 own0 records own =
     Ends (IsComplete ended left) left0 written0 left ended written (IsServed alone seen0 own0 records own)
 
 -- a session whose source failed
-abbrev pub EndsShort : Option (List ℕ) → Option (List ℕ) → Option (List ℕ) → Bool → Option (List ℕ) → Bool → List RecordView
+abbrev pub EndsShort : Option (List ℕ) → Option (List ℕ) → Option (List ℕ) → Bool → Option (List ℕ) → Bool
+    → List RecordView
     → ℕ → List RecordView → ℕ → Type 0
 EndsShort left0 written0 left ended written alone seen0 own0 records own =
     Ends (IsCutShort ended) left0 written0 left ended written (IsServed alone seen0 own0 records own)
 
 -- a session that was sent too much
-abbrev pub EndsLong : Option (List ℕ) → Option (List ℕ) → Option (List ℕ) → Bool → Option (List ℕ) → Bool → List RecordView
+abbrev pub EndsLong : Option (List ℕ) → Option (List ℕ) → Option (List ℕ) → Bool → Option (List ℕ) → Bool
+    → List RecordView
     → ℕ → List RecordView → ℕ → Type 0
 EndsLong left0 written0 left ended written alone seen0 own0 records own =
     Ends (IsTooLong ended) left0 written0 left ended written (IsServed alone seen0 own0 records own)

@@ -1,5 +1,22 @@
 -- What one turn of a session does: a line is read, and answered.
-use Rattle.std.specs.Prelude.{◌≡◌, ℕ, ◌⊎◌, take, List, [], ◌∷◌, length, Bool, true, false, None, Some, Result, Ok, Err}
+use Rattle.std.specs.Prelude.{
+  ◌≡◌,
+  ℕ,
+  ◌⊎◌,
+  take,
+  List,
+  [],
+  ◌∷◌,
+  length,
+  Bool,
+  true,
+  false,
+  None,
+  Some,
+  Result,
+  Ok,
+  Err,
+}
 use Rattle.std.specs.Prelude.{MatchResult}
 use Rattle.std.specs.Io.KnownBytes.{Appends}
 use Rattle.std.specs.declared.option.Option.{Option}
@@ -62,7 +79,8 @@ LineAnswered alone old own new own2 open_text intake line before after (Err e) =
 
 -- what is owed where the input ends was written, or at a failure a front of it
 pub record Closed {E : Type 0} (alone : Bool) (old : List RecordView) (own : ℕ) (new : List RecordView) (own2 : ℕ)
-    (open_text : Option (List (List ℕ))) (before after : Option (List ℕ)) (result : Result (Unit {0}) E) : Type 0 where
+    (open_text : Option (List (List ℕ))) (before after : Option (List ℕ)) (result : Result
+    (Unit {0}) E) : Type 0 where
   pub owed : List ℕ
   pub closing : Closing alone old own open_text owed new own2
   pub wrote : MatchResult result (λ _. Appends before after owed)

@@ -130,7 +130,8 @@ fn answer_last<H: Shelf, P: Peer>(
     peer: &mut P,
 ) -> Result<(), Failed>
     requires few { lines_in state.old.intake + 1 < 2 ^ 31 }
-    ensures ends { (seen0 : List RecordView) (own0 : ℕ) (left0 written0 left after : Option (List ℕ)) (held held2 : Held)
+    ensures ends { (seen0 : List RecordView) (own0 : ℕ) (left0 written0 left after : Option (List ℕ))
+        (held held2 : Held)
         (ended met : Bool) (l : List ℕ)
         → GoesOn (H.alone shelf.old) seen0 own0 left0 written0 held left ended (P.written peer.old)
         (H.seen shelf.old) (H.own shelf.old) state.old.intake

@@ -17,4 +17,5 @@ pub returns-clause-all : goal.returns-clause-all
 returns-clause-all c =
     let kept = c.loop-router.invariant in
     subst (λ (n : Net). AllEntered n c.loop-router.grow.history) (sym kept.net)
-    (built_all c.args.net.now c.loop-router.grow.history _ (omega (arith, c.routers-router-end.ensures.value)) kept.built)
+    (built_all c.args.net.now c.loop-router.grow.history _ (omega (arith, c.routers-router-end.ensures.value))
+    kept.built)

@@ -3,7 +3,8 @@ use Rattle.session.proofs.Turning.{last_bye_answered, last_begun, last_closed}
 use Rattle.session.proofs.serve.answer_last.Goals as goal
 
 pub returns-in-Ok-true-clause-ends : goal.returns-in-Ok-true-clause-ends
-returns-in-Ok-true-clause-ends g c = λ seen0 own0 left0 written0 left after held held2 ended met l so passes some is over.
+returns-in-Ok-true-clause-ends g c = λ seen0 own0 left0 written0 left after held held2 ended met l so passes some is
+    over.
     last_bye_answered _ seen0 own0 left0 written0 left after _ _ ended met held held2 _ _ _ _
     c.args.state.now.intake c.answer_line.new.state.intake so
     l _ passes some is over (rw c.in-Ok-true.field-0-test at (c.in-Ok-true.ensures.answered so.open_text so.holds))

@@ -11,4 +11,5 @@ returns-then-is_end-clause-taken g c = λ text.
 
 pub returns-else-is_end-clause-taken : goal.returns-else-is_end-clause-taken
 returns-else-is_end-clause-taken g c = λ text.
-    more_taken _ _ _ text _ c.args.line.now (g.H.Shelf.few c.args.shelf.now) (sym c.is_end.ensures ∙ c.if-is_end.false) tt
+    more_taken _ _ _ text _ c.args.line.now (g.H.Shelf.few c.args.shelf.now)
+    (sym c.is_end.ensures ∙ c.if-is_end.false) tt
