@@ -71,6 +71,15 @@ impl LineReader {
         })
     }
 
+    /// Begins anew: what was read ahead is dropped, and the count of bytes begins at 0.
+    pub fn restart(&mut self)
+        ensures { self.new ≡ record { bytes = []; taken = 0 } }
+    {
+        self.from = 0;
+        self.to = 0;
+        self.taken = 0;
+    }
+
     fn is_spent(&self) -> bool
         ensures spent { IsTrue result → self.now.taken ≡ 2 ^ 30 }
         ensures not_spent { result ≡ false → self.now.taken < 2 ^ 30 }

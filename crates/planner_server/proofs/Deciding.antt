@@ -4,12 +4,12 @@ use Rattle.std.proofs.Common.{arith, subst, inl, inr, refl, length-append}
 use Rattle.std.proofs.lemmas.List.{append_cancel_right}
 use Rattle.std.specs.Io.KnownBytes.{Consumes}
 use Rattle.std.specs.declared.option.Option.{Option}
-use Rattle.network_text.specs.Sheets.{SheetView}
-use Rattle.planner_server.specs.Sessions.{IsComplete}
-use Rattle.planner_server.specs.Turns.{EndsAs}
-use Rattle.planner_server.specs.declared.serve.SessionEnd.{SessionEnd}
-use Rattle.planner_server.specs.declared.serve.SessionEnd.TheVariants.{Done, ReadFault, WriteFault, TooLong}
+use Rattle.planner_server.specs.Runs.{RunEndsAs}
+use Rattle.session.specs.Sessions.{IsComplete}
+use Rattle.session.specs.declared.serve.SessionEnd.{SessionEnd}
+use Rattle.session.specs.declared.serve.SessionEnd.TheVariants.{Done, ReadFault, WriteFault, TooLong}
 use Rattle.text_forms.specs.Items.{Item, Ask, Load, Bye, NoBye, items_of}
+use Rattle.tree_versions.specs.Records.{RecordView}
 
 -- where nothing was taken, not many bytes were
 pub none_taken : (told : Option (List ℕ)) (taken rest : List ℕ) → told ≡ Some (taken ++ rest) → told ≡ Some rest
@@ -37,8 +37,8 @@ bye_behind (Bye ∷ front) quiet = quiet
 
 -- 2^30 bytes without a BYE, and no end, are too many
 pub always_long : (end : SessionEnd) (told told2 written0 written : Option (List ℕ)) (ended : Bool)
-    (records : List SheetView) (taken rest : List ℕ)
-    → EndsAs end told written0 told2 ended written records → told ≡ Some (taken ++ rest) → told2 ≡ Some rest
+    (records : List RecordView) (taken rest : List ℕ)
+    → RunEndsAs end told written0 told2 ended written records → told ≡ Some (taken ++ rest) → told2 ≡ Some rest
     → length taken ≡ 2 ^ 30 → ended ≡ false → NoBye (items_of false taken) → (end ≡ WriteFault → ⊥) → end ≡ TooLong
 always_long Done told told2 written0 written ended records taken rest e before after many unmet quiet sound =
     absurd (complete e.why)

@@ -2,8 +2,8 @@
 use Rattle.std.specs.Prelude.{◌≡◌, ℕ, List, [], ◌∷◌, codes}
 use Rattle.planner_server.specs.declared.outcome.Status.{Status}
 use Rattle.planner_server.specs.declared.outcome.Status.TheVariants.{Done, ReadFault, WriteFault, TooLong}
-use Rattle.planner_server.specs.declared.serve.SessionEnd.{SessionEnd}
-use Rattle.planner_server.specs.declared.serve.SessionEnd.TheVariants as ends
+use Rattle.session.specs.declared.serve.SessionEnd.{SessionEnd}
+use Rattle.session.specs.declared.serve.SessionEnd.TheVariants as ends
 
 -- the one word `plan`
 abbrev pub IsPlan : List (List ℕ) → Type 0

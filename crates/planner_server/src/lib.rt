@@ -5,13 +5,8 @@
 //! hands back and no others.
 #![tactic(auto)]
 
-mod intake;
 mod outcome;
 mod planner;
-mod record;
-mod serve;
-mod session;
 
 pub use outcome::{Outcome, Status};
 pub use planner::run;
-pub use record::Record;

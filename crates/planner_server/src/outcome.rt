@@ -1,7 +1,7 @@
 //! How a run ends.
 
-use crate::Record;
 use std::sync::Arc;
+use tree_versions::Record;
 
 /// How a run ended.
 #[derive(Clone, Copy, PartialEq, Eq, Debug)]

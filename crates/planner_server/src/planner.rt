@@ -3,42 +3,34 @@ ghost use Rattle.std.specs.Prelude.{◌≡◌, ℕ, ◌+◌, ◌^◌, ◌≤◌,
 ghost use Rattle.std.specs.Prelude.{length, map, IfOk, IsTrue};
 ghost use Rattle.std.specs.String.{string_bytes};
 ghost use Rattle.planner_server.specs.Commands.{IsPlan};
-ghost use Rattle.planner_server.specs.Records.{sheets_of};
-ghost use Rattle.planner_server.specs.Sessions.{Breaks, EndsLong, EndsShort, EndsWhole};
-ghost use Rattle.planner_server.specs.Taking.{Holds, lines_in};
-ghost use Rattle.planner_server.specs.Turns.{EndsAs};
+ghost use Rattle.planner_server.specs.Runs.{Breaks, EndsLong, EndsShort, EndsWhole, RunEndsAs};
 ghost use Rattle.text_forms.specs.Items.{NoBye, items_of};
+ghost use Rattle.tree_versions.specs.Records.{AreFinished};
+ghost use Rattle.tree_versions.specs.Solo.{views_of};
 ghost use Rattle.wires.specs.Causes.{Rose};
 
-use crate::serve::{SessionEnd, serve};
-use crate::session::Session;
 use crate::{Outcome, Status};
 use cut_model::NoMemory;
-use line_reader::{Line, LineReader};
+use session::{Session, SessionEnd, serve_session};
 use std::alloc::Global;
-use wires::{Sink, Source};
+use tree_versions::SoloShelf;
+use wires::{Pair, Sink, Source};
 
-/// All that a session needs: the reader of its lines, and its state.
+/// All that a run needs: a session, and the shelf on which its records are published.
 #[derive(Drop)]
 struct Desk {
-    reader: LineReader,
-    line: Line,
     session: Session,
+    shelf: SoloShelf,
 }
 
 impl Desk {
-    /// Takes all memory that a session needs beside that of the texts that it loads.
+    /// Takes all memory that a run needs beside that of the texts that it loads.
     fn make(alloc: Global) -> Result<Desk, NoMemory>
-        ensures bytes { IfOk result (λ desk. desk.reader.bytes ≡ []) }
-        ensures taken { IfOk result (λ desk. desk.reader.taken ≡ 0) }
-        ensures records { IfOk result (λ desk. sheets_of desk.session.records.items ≡ []) }
-        ensures between { IfOk result (λ desk. Holds desk.session.intake None) }
-        ensures no_line { IfOk result (λ desk. lines_in desk.session.intake ≡ 0) }
+        ensures { IfOk result (λ desk. views_of desk.shelf.records.items ≡ []) }
     {
         Ok(Desk {
-            reader: LineReader::make(alloc)?,
-            line: Line::make(alloc)?,
-            session: Session::make(alloc)?,
+            session: Session::make(alloc, 1)?,
+            shelf: SoloShelf::make(alloc)?,
         })
     }
 }
@@ -56,7 +48,7 @@ fn is_plan(words: &[String]) -> bool
 /// An end at which nothing was read or written.
 fn refused(alloc: Global, status: Status) -> Outcome
     ensures status { result.status ≡ status }
-    ensures records { sheets_of result.records.items ≡ [] }
+    ensures records { views_of result.records.items ≡ [] }
 {
     Outcome {
         status,
@@ -79,6 +71,29 @@ impl From<SessionEnd> for Status {
     }
 }
 
+/// Serves a source and a sink as one peer.
+fn serve_both<S: Source, K: Sink>(
+    alloc: Global,
+    session: &mut Session,
+    shelf: &mut SoloShelf,
+    source: &mut S,
+    sink: &mut K,
+) -> SessionEnd
+    requires none { views_of shelf.old.records.items ≡ [] }
+    ensures ends { RunEndsAs result (S.left source.old) (K.written sink.old) (S.left source.new) (S.ended source.new)
+        (K.written sink.new) (views_of shelf.new.records.items) }
+    ensures few { length (views_of shelf.new.records.items) ≤ 256 }
+    ensures runs { AreFinished (views_of shelf.new.records.items) }
+    ensures read_fault { result ≡ SessionEnd.ReadFault → Rose (S.read_faults source.old) (S.read_faults source.new) }
+    ensures write_fault { result ≡ SessionEnd.WriteFault → Rose (K.write_faults sink.old) (K.write_faults sink.new) }
+    ensures reads { S.read_faults source.old ≤ S.read_faults source.new }
+    ensures writes { K.write_faults sink.old ≤ K.write_faults sink.new }
+    ensures beside_source { S.beside_source source.new ≡ S.beside_source source.old }
+    ensures beside_sink { K.beside_sink sink.new ≡ K.beside_sink sink.old }
+{
+    serve_session(alloc, session, shelf, &mut Pair { source, sink })
+}
+
 /// Runs the command that the words name. It is `plan`: one session over the source and the
 /// sink.
 ///
@@ -99,25 +114,28 @@ pub fn run<S: Source, K: Sink>(
 
     // At these two nothing was read or written.
     ensures untouched { (result.status ≡ Status.BadWords) ⊎ (result.status ≡ Status.NoMemory)
-        → (source.new ≡ source.old) × (sink.new ≡ sink.old) × (sheets_of result.records.items ≡ []) }
+        → (source.new ≡ source.old) × (sink.new ≡ sink.old) × (views_of result.records.items ≡ []) }
 
-    ensures few { length (sheets_of result.records.items) ≤ 256 }
+    ensures few { length (views_of result.records.items) ≤ 256 }
+
+    // Each record is a finished run over its own network.
+    ensures runs { AreFinished (views_of result.records.items) }
 
     // What was written answers the whole items of the bytes that were taken, over these records and no others.
     ensures done { result.status ≡ Status.Done
         → EndsWhole (S.left source.old) (K.written sink.old) (S.left source.new) (S.ended source.new)
-        (K.written sink.new) (sheets_of result.records.items) }
+        (K.written sink.new) (views_of result.records.items) }
     ensures read_fault { result.status ≡ Status.ReadFault
         → EndsShort (S.left source.old) (K.written sink.old) (S.left source.new) (S.ended source.new)
-        (K.written sink.new) (sheets_of result.records.items) }
+        (K.written sink.new) (views_of result.records.items) }
     ensures too_long { result.status ≡ Status.TooLong
         → EndsLong (S.left source.old) (K.written sink.old) (S.left source.new) (S.ended source.new)
-        (K.written sink.new) (sheets_of result.records.items) }
+        (K.written sink.new) (views_of result.records.items) }
 
     // At most a part of the last reply is missing.
     ensures write_fault { result.status ≡ Status.WriteFault
         → Breaks (S.left source.old) (K.written sink.old) (S.left source.new) (S.ended source.new)
-        (K.written sink.new) (sheets_of result.records.items) }
+        (K.written sink.new) (views_of result.records.items) }
 
     // Each fault has its cause.
     ensures read_cause { result.status ≡ Status.ReadFault → Rose (S.read_faults source.old) (S.read_faults source.new) }
@@ -144,13 +162,12 @@ pub fn run<S: Source, K: Sink>(
         return refused(alloc, Status::NoMemory);
     };
     let Desk {
-        mut reader,
-        mut line,
         mut session,
+        mut shelf,
     } = desk;
-    let end = serve(alloc, &mut reader, &mut line, &mut session, source, sink);
+    let end = serve_both(alloc, &mut session, &mut shelf, source, sink);
     Outcome {
         status: Status::from(end),
-        records: session.records,
+        records: shelf.into_records(),
     }
 }

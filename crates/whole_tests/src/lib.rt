@@ -6,4 +6,6 @@
 
 #[cfg(test)]
 mod plans;
+#[cfg(test)]
+mod sessions;
 mod words;

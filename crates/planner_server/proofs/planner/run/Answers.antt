@@ -13,6 +13,6 @@ returns-in_default-clause-always_too_long g c = λ taken rest before after many 
 
 pub returns-clause-always_too_long : goal.returns-clause-always_too_long
 returns-clause-always_too_long g c = λ taken rest before after many unmet quiet sound.
-    c.from.ensures ∙ ap status_of (always_long _ _ _ _ _ _ _ taken rest c.serve-end.ensures.ends before after many
+    c.from.ensures ∙ ap status_of (always_long _ _ _ _ _ _ _ taken rest c.serve_both-end.ensures.ends before after many
     unmet quiet
-    (λ failed. sound (c.serve-end.ensures.write_fault failed)))
+    (λ failed. sound (c.serve_both-end.ensures.write_fault failed)))

@@ -1,0 +1,295 @@
+-- How replies to stretches of items join, and stay right while the list of records grows.
+use Rattle.std.proofs.Common.{◌≡◌, ℕ, zero, suc, ◌+◌, ◌<◌, ◌≤◌, List, [], ◌∷◌, ◌++◌, Bool, true, length, None, Some}
+use Rattle.std.proofs.Common.{
+  Result,
+  Ok,
+  Err,
+  refl,
+  sym,
+  ap,
+  ◌∙◌,
+  arith,
+  append_assoc,
+  subst,
+  inl,
+  inr,
+  length-append,
+}
+use Rattle.std.proofs.lemmas.List.{append-nil}
+use Rattle.std.specs.declared.option.Option.{Option}
+use Rattle.std.specs.Prelude.{slice_get}
+use Rattle.network_text.specs.Sheets.{SheetView}
+use Rattle.network_text.specs.Texts.{verdict_of}
+use Rattle.network_text.specs.declared.fault.TextFault.{TextFault}
+use Rattle.query_lang.specs.Replies.{refused_text}
+use Rattle.session.specs.Answers.{Answers, IsLoaded, IsRefusedFull, IsReply, IsTold, LoadStep, Stays, Step}
+use Rattle.session.specs.Modes.{Gives, IsReached, IsServed, Leads, Reaches}
+use Rattle.text_forms.specs.Items.{Item, Ask, Load, Bye}
+use Rattle.tree_versions.specs.Records.{RecordView, Grows, record_at}
+use Rattle.tree_versions.specs.Shelves.{Looks}
+
+-- a number and nothing
+zero_plus : (m : ℕ) → m ≡ 0 + m
+zero_plus m = omega arith
+
+-- two stretches of items, one after the other
+pub Answers-append : (alone : Bool) (records : List RecordView) (xs ys : List Item) (a b c : ℕ)
+    (text more : List ℕ) (l m : ℕ)
+    → Answers alone records a xs text b l → Answers alone records b ys more c m
+    → Answers alone records a (xs ++ ys) (text ++ more) c (l + m)
+Answers-append alone records [] ys a b c text more l m p q =
+    rw p.0 (rw p.2 (subst (λ (n : ℕ). Answers alone records a ys more c n) (zero_plus m) (rw p.1 at q)))
+Answers-append alone records (item ∷ xs) ys a b c text more l m p q = record {
+  reply = p.reply;
+  rest = p.rest ++ more;
+  next = p.next;
+  loaded = p.loaded;
+  others = p.others + m;
+  step = p.step;
+  joins = ap (λ t. t ++ more) p.joins ∙ append_assoc p.reply p.rest more;
+  sum = omega (arith, p.sum);
+  on = Answers-append alone records xs ys p.next b c p.rest more p.others m p.on q;
+}
+
+-- records that are added behind change no place before
+slice_get-grown : (xs more : List RecordView) (i : ℕ) → i < length xs → slice_get (xs ++ more) i ≡ slice_get xs i
+slice_get-grown [] more i low = absurd (omega arith)
+slice_get-grown (y ∷ xs) more zero low = refl
+slice_get-grown (y ∷ xs) more (suc i) low = slice_get-grown xs more i (omega arith)
+
+-- the record of a version stays where records are added behind
+record_at-grown : (records more : List RecordView) (version : ℕ) → version ≤ length records
+    → record_at (records ++ more) version ≡ record_at records version
+record_at-grown records more zero low = refl
+record_at-grown records more (suc version) low = slice_get-grown records more version (omega arith)
+
+module _ (alone : Bool) (records more : List RecordView) (few : length (records ++ more) ≤ 256) where
+  -- a reply that publishes nothing stays right where records are added behind
+  IsTold-grown : (seen next loads : ℕ) (P Q : Type 0) → IsTold alone records seen next loads P
+      → (next ≤ length records → P → Q) → IsTold alone (records ++ more) seen next loads Q
+  IsTold-grown seen next loads P Q told on = record {
+    stays = record {
+      later = told.stays.later;
+      there = omega (arith, told.stays.there, length-append records more);
+      same = told.stays.same;
+    };
+    told = on told.stays.there told.told;
+    counted = told.counted;
+  }
+
+  -- so does the reply to a LOAD
+  LoadStep-grown : (seen : ℕ) (verdict : Result SheetView TextFault) (reply : List ℕ) (next loads : ℕ)
+      → LoadStep alone records seen verdict reply next loads
+      → LoadStep alone (records ++ more) seen verdict reply next loads
+  LoadStep-grown seen (Err fault) reply next loads step =
+      IsTold-grown seen next loads _ _ step (λ there told. told)
+  LoadStep-grown seen (Ok sheet) reply next loads (inl step) = inl (record {
+    later = step.later;
+    made = step.made;
+    place = record_at-grown records more next step.there ∙ step.place;
+    shows = step.shows;
+    there = omega (arith, step.there, length-append records more);
+    text = step.text;
+    same = step.same;
+    counted = step.counted;
+  })
+  LoadStep-grown seen (Ok sheet) reply next loads (inr (inl step)) = inr (inl (record {
+    full = omega (arith, step.full, few, length-append records more);
+    all = step.all;
+    later = step.later;
+    text = step.text;
+    same = step.same;
+    counted = step.counted;
+  }))
+  LoadStep-grown seen (Ok sheet) reply next loads (inr (inr step)) =
+      inr (inr (IsTold-grown seen next loads _ _ step (λ there told. told)))
+
+  -- and that to each item
+  Step-grown : (seen : ℕ) (item : Item) (reply : List ℕ) (next loads : ℕ)
+      → Step alone records seen item reply next loads → Step alone (records ++ more) seen item reply next loads
+  Step-grown seen (Ask line) reply next loads step =
+      IsTold-grown seen next loads _ _ step
+      (λ there told. subst (λ (r : Option RecordView). IsReply r next line reply)
+      (sym (record_at-grown records more next there)) told)
+  Step-grown seen Bye reply next loads step = IsTold-grown seen next loads _ _ step (λ there told. told)
+  Step-grown seen (Load text whole) reply next loads step =
+      LoadStep-grown seen (verdict_of text whole) reply next loads step
+
+  -- and those to a stretch of items
+  Answers-grown : (seen : ℕ) (items : List Item) (text : List ℕ) (last loads : ℕ)
+      → Answers alone records seen items text last loads → Answers alone (records ++ more) seen items text last loads
+  Answers-grown seen [] text last loads p = p
+  Answers-grown seen (item ∷ items) text last loads p = record {
+    reply = p.reply;
+    rest = p.rest;
+    next = p.next;
+    loaded = p.loaded;
+    others = p.others;
+    step = Step-grown seen item p.reply p.next p.loaded p.step;
+    joins = p.joins;
+    sum = p.sum;
+    on = Answers-grown p.next items p.rest last p.others p.on;
+  }
+
+-- answers stay right while the list grows, since it never holds more than 256
+pub Answers-grow : (alone : Bool) (records all : List RecordView) (seen : ℕ) (items : List Item) (text : List ℕ)
+    (last loads : ℕ) → Grows records all → length all ≤ 256 → Answers alone records seen items text last loads
+    → Answers alone all seen items text last loads
+Answers-grow alone records all seen items text last loads grows few p =
+    let few' : length (records ++ grows.0) ≤ 256 = subst (λ (v : List RecordView). length v ≤ 256) grows.1 few in
+    subst (λ (v : List RecordView). Answers alone v seen items text last loads) (sym grows.1)
+    (Answers-grown alone records grows.0 few' seen items text last loads p)
+
+-- records are added to records that were added
+pub Grows-trans : (a b c : List RecordView) → Grows a b → Grows b c → Grows a c
+Grows-trans a b c p q = (p.0 ++ q.0, q.1 ∙ ap (λ (v : List RecordView). v ++ q.0) p.1 ∙ append_assoc a p.0 q.0)
+
+-- records that are added make the list no shorter
+pub Grows-length : (a b : List RecordView) → Grows a b → length a ≤ length b
+Grows-length a b p = omega (arith, ap length p.1, length-append a p.0)
+
+-- no record is added
+pub grows_none : (records : List RecordView) → Grows records records
+grows_none records = ([], sym (append-nil records))
+
+-- two looks, one after the other
+pub Looks-trans : (alone : Bool) (a b c : List RecordView) → Looks alone a b → Looks alone b c → Looks alone a c
+Looks-trans alone a b c p q = record {
+  grows = Grows-trans a b c p.grows q.grows;
+  still = λ only. q.still only ∙ p.still only;
+}
+
+-- what is served goes on by what a line gives
+pub IsServed-on : (alone : Bool) (seen0 : List RecordView) (own0 : ℕ) (records after : List RecordView) (own own2 : ℕ)
+    (done items : List Item) (text out : List ℕ)
+    → IsServed alone seen0 own0 records own done text → Gives alone records own items out after own2
+    → IsServed alone seen0 own0 after own2 (done ++ items) (text ++ out)
+IsServed-on alone seen0 own0 records after own own2 done items text out p gives =
+    let a = p.answers in
+    let b = gives.leads.on a.last a.reached in record {
+      loads = p.loads + gives.loads;
+      grows = Grows-trans seen0 records after p.grows gives.leads.grows;
+      counted = omega (arith, p.counted, gives.counted);
+      answers = record {
+        last = b.last;
+        reached = b.reached;
+        holds = Answers-append alone after done items (length seen0) a.last b.last text out p.loads gives.loads
+            (Answers-grow alone records after (length seen0) done text a.last p.loads gives.leads.grows
+            gives.leads.few a.holds) b.holds;
+      };
+    }
+
+-- two stretches of items that each lead from records to more records
+pub Gives-join : (alone : Bool) (records mid after : List RecordView) (own own1 own2 : ℕ) (xs ys : List Item)
+    (out more : List ℕ)
+    → Gives alone records own xs out mid own1 → Gives alone mid own1 ys more after own2
+    → Gives alone records own (xs ++ ys) (out ++ more) after own2
+Gives-join alone records mid after own own1 own2 xs ys out more p q = record {
+  loads = p.loads + q.loads;
+  counted = omega (arith, p.counted, q.counted);
+  leads = record {
+    grows = Grows-trans records mid after p.leads.grows q.leads.grows;
+    few = q.leads.few;
+    on = λ seen reached.
+        let a = p.leads.on seen reached in
+        let b = q.leads.on a.last a.reached in record {
+          last = b.last;
+          reached = b.reached;
+          holds = Answers-append alone after xs ys seen a.last b.last out more p.loads q.loads
+              (Answers-grow alone mid after seen xs out a.last p.loads q.leads.grows q.leads.few a.holds) b.holds;
+        };
+  };
+}
+
+-- nothing was served yet
+pub serves_none : (alone : Bool) (records : List RecordView) (own : ℕ) → IsServed alone records own records own [] []
+serves_none alone records own = record {
+  loads = 0;
+  grows = grows_none records;
+  counted = omega arith;
+  answers = record {
+    last = length records;
+    reached = record { there = omega arith; last = λ only. refl };
+    holds = (refl, refl, refl);
+  };
+}
+
+module _ (alone : Bool) (old new : List RecordView) (own own2 : ℕ) (few : length new ≤ 256)
+    (looks : Looks alone old new) (kept : own2 ≡ own) where
+  -- the version of a look isn't older than what was told before
+  stays : (seen : ℕ) → IsReached alone old seen → Stays alone new seen (length new)
+  stays seen reached = record {
+    later = omega (arith, reached.there, Grows-length old new looks.grows);
+    there = omega arith;
+    same = λ only. ap length (looks.still only) ∙ sym (reached.last only);
+  }
+
+  -- the version of a look may be told
+  reached_all : IsReached alone new (length new)
+  reached_all = record { there = omega arith; last = λ only. refl }
+
+  -- a look gives no item
+  pub Gives-none : Gives alone old own [] [] new own2
+  Gives-none = record {
+    loads = 0;
+    counted = omega (arith, kept);
+    leads = record {
+      grows = looks.grows;
+      few = few;
+      on = λ seen reached. record {
+        last = seen;
+        reached = record {
+          there = omega (arith, reached.there, Grows-length old new looks.grows);
+          last = λ only. reached.last only ∙ sym (ap length (looks.still only));
+        };
+        holds = (refl, refl, refl);
+      };
+    };
+  }
+
+  -- a look leads to its version
+  pub look_leads : (P : ℕ → ℕ → Type 0) → ((seen : ℕ) → Stays alone new seen (length new) → P seen (length new))
+      → Leads alone old new P
+  look_leads P holds = record {
+    grows = looks.grows;
+    few = few;
+    on = λ seen reached. record {
+      last = length new;
+      reached = reached_all;
+      holds = holds seen (stays seen reached);
+    };
+  }
+
+-- an item whose steps lead from records to records
+pub Gives-one : (alone : Bool) (old new : List RecordView) (own own2 : ℕ) (item : Item) (reply : List ℕ) (loads : ℕ)
+    → own2 ≡ own + loads → Leads alone old new (λ seen next. Step alone new seen item reply next loads)
+    → Gives alone old own (item ∷ []) reply new own2
+Gives-one alone old new own own2 item reply loads counted leads = record {
+  loads = loads;
+  counted = counted;
+  leads = record {
+    grows = leads.grows;
+    few = leads.few;
+    on = λ seen reached. let a = leads.on seen reached in record {
+      last = a.last;
+      reached = a.reached;
+      holds = record {
+        reply = reply;
+        rest = [];
+        next = a.last;
+        loaded = loads;
+        others = 0;
+        step = a.holds;
+        joins = sym (append-nil reply);
+        sum = omega arith;
+        on = (refl, refl, refl);
+      };
+    };
+  };
+}
+
+-- records on which nobody looked give no item
+pub Gives-still : (alone : Bool) (records : List RecordView) (own : ℕ) → length records ≤ 256
+    → Gives alone records own [] [] records own
+Gives-still alone records own few =
+    Gives-none alone records records own own few (record { grows = grows_none records; still = λ only. refl }) refl

@@ -1,0 +1,345 @@
+-- What one line, or the end of the input, does to a session.
+use Rattle.std.proofs.Common.{◌≡◌, ℕ, ◌<◌, ◌≤◌, List, [], ◌∷◌, ◌++◌, length, take, None, Some, Bool, true, false}
+use Rattle.std.proofs.Common.{refl, sym, ap, ◌∙◌, arith, append_assoc, subst, inl, inr, length-append}
+use Rattle.std.proofs.lemmas.List.{append-nil}
+use Rattle.std.proofs.KnownBytes.{Appends-trans, Consumes-trans}
+use Rattle.std.specs.declared.option.Option.{Option}
+use Rattle.std.specs.Io.KnownBytes.{Consumes, Appends, prepend_known}
+use Rattle.line_reader.specs.Held.{Held, ahead, IsOpen}
+use Rattle.line_reader.specs.Ends.{IsOver}
+use Rattle.line_reader.specs.Passing.{Goes, Passes}
+use Rattle.session.specs.Modes.{next_text, gives, Gives, IsQuiet, IsByeLine, IsServed, Closing}
+use Rattle.session.specs.Sessions.{SoFar, Ends, Breaks, IsComplete, EndsWhole}
+use Rattle.session.proofs.Answering.{IsServed-on, Answers-grow, Gives-join, Grows-trans}
+use Rattle.session.proofs.Serving.{goes_on, line_items, last_items, end_items, stops_items, bye_items}
+use Rattle.session.proofs.Serving.{bye_last_items, gives-one, ends-one}
+use Rattle.text_forms.specs.Lines.{NoFeed, front_of}
+use Rattle.text_forms.specs.Items.{Item, Bye, NoBye, items_from, items_on, items_of}
+use Rattle.tree_versions.specs.Records.{RecordView}
+
+-- bytes that are held were taken too
+Consumes-held : (a left : Option (List ℕ)) (held bytes : List ℕ) → Consumes a (prepend_known held left) bytes
+    → Consumes a left (bytes ++ held)
+Consumes-held None left held bytes p = tt
+Consumes-held (Some u) None held bytes p = absurd p
+Consumes-held (Some u) (Some v) held bytes p = p ∙ sym (append_assoc bytes held v)
+
+-- where nothing is held, what was passed is what was taken
+Consumes-spent : (a left : Option (List ℕ)) (held bytes : List ℕ) → held ≡ []
+    → Consumes a (prepend_known held left) bytes → Consumes a left bytes
+Consumes-spent a left held bytes none p = subst (Consumes a left) (ap (λ h. bytes ++ h) none ∙ append-nil bytes)
+    (Consumes-held a left held bytes p)
+
+module _ (alone : Bool) (seen0 : List RecordView) (own0 : ℕ)
+    (left0 written0 left written now after_left : Option (List ℕ)) (ended met : Bool) (held held2 : Held)
+    (records after : List RecordView) (own own2 : ℕ) (open_text : Option (List (List ℕ)))
+    (s : SoFar alone seen0 own0 left0 written0 held left ended written records own open_text) where
+  -- the session ends where these items, the last of the whole items, are answered by what was written
+  ends_by : (P : List ℕ → List Item → Type 0) (bytes out : List ℕ) (items : List Item)
+      → items_of met bytes ≡ s.serves.done ++ items
+      → Gives alone records own items out after own2 → Consumes left0 after_left bytes → Appends written now out
+      → P bytes (items_of met bytes)
+      → Ends P left0 written0 after_left met now (IsServed alone seen0 own0 after own2)
+  ends_by P bytes out items are given gone wrote why = record {
+    bytes = bytes;
+    text = s.text ++ out;
+    served = subst (λ (is : List Item). IsServed alone seen0 own0 after own2 is (s.text ++ out)) (sym are)
+        (IsServed-on alone seen0 own0 records after own own2 s.serves.done items s.text out s.serves.answered given);
+    gone = gone;
+    wrote = Appends-trans written0 written now s.text out s.wrote wrote;
+    why = why;
+  }
+
+  -- the session breaks in the reply to these items, of which there is one at most
+  breaks_by : (bytes reply : List ℕ) (items behind : List Item) (count : ℕ)
+      → items_of met bytes ≡ (s.serves.done ++ items) ++ behind
+      → length items ≤ 1 → Gives alone records own items reply after own2 → Consumes left0 after_left bytes
+      → Appends written now (take count reply)
+      → Breaks left0 written0 after_left met now alone seen0 own0 after own2
+  breaks_by bytes reply items behind count are one given gone wrote =
+      let a = s.serves.answered in
+      let b = given.leads.on a.answers.last a.answers.reached in record {
+        bytes = bytes;
+        earlier = s.serves.done;
+        last = items;
+        behind = behind;
+        text = s.text;
+        reply = reply;
+        seen = a.answers.last;
+        final = b.last;
+        loads = a.loads;
+        loaded = given.loads;
+        count = count;
+        whole = are;
+        one = one;
+        grows = Grows-trans seen0 records after a.grows given.leads.grows;
+        before = Answers-grow alone records after (length seen0) s.serves.done s.text a.answers.last a.loads
+            given.leads.grows given.leads.few a.answers.holds;
+        answers = b.holds;
+        reached = b.reached;
+        counted = omega (arith, a.counted, given.counted);
+        gone = gone;
+        wrote = Appends-trans written0 written now s.text (take count reply) s.wrote wrote;
+      }
+
+  -- what was taken behind a whole line
+  taken_line : (line : List ℕ) → Goes held left held2 after_left (line ++ 10 ∷ [])
+      → Consumes left0 after_left ((s.bytes ++ (line ++ 10 ∷ [])) ++ held2.bytes)
+  taken_line line goes =
+      Consumes-held left0 after_left held2.bytes (s.bytes ++ (line ++ 10 ∷ []))
+      (Consumes-trans left0 (ahead held left) (ahead held2 after_left) s.bytes (line ++ 10 ∷ []) s.gone
+      goes.gone)
+
+  -- what was taken where no line feed came
+  taken_part : (line : List ℕ) → Passes held left held2 after_left line → Consumes left0 after_left (s.bytes ++ line)
+  taken_part line passes =
+      Consumes-spent left0 after_left held2.bytes (s.bytes ++ line) passes.spent
+      (Consumes-trans left0 (ahead held left) (ahead held2 after_left) s.bytes line s.gone passes.goes.gone)
+
+  -- a whole line that is no BYE was answered
+  pub whole_line : (line front out : List ℕ) → NoFeed line → Goes held left held2 after_left (line ++ 10 ∷ [])
+      → front ≡ front_of line
+      → (IsOpen held ended → IsOpen held2 met) → IsQuiet open_text front
+      → Gives alone records own (gives open_text front) out after own2 → Appends written now out
+      → SoFar alone seen0 own0 left0 written0 held2 after_left met now after own2 (next_text open_text front)
+  whole_line line front out clean goes is opens quiet given wrote =
+      let quiet' : IsQuiet open_text (front_of line) = subst (IsQuiet open_text) is quiet in
+      let given' = subst (λ (f : List ℕ). Gives alone records own (gives open_text f) out after own2) is given in
+      subst (λ (f : List ℕ). SoFar alone seen0 own0 left0 written0 held2 after_left met now after own2
+      (next_text open_text f)) (sym is)
+      (record {
+        bytes = s.bytes ++ (line ++ 10 ∷ []);
+        text = s.text ++ out;
+        serves = goes_on alone seen0 own0 s.bytes s.text records own open_text s.serves after own2 line out clean
+            quiet' given';
+        gone = Consumes-trans left0 (ahead held left) (ahead held2 after_left) s.bytes (line ++ 10 ∷ []) s.gone
+            goes.gone;
+        count = omega (arith, s.count, goes.count, length-append s.bytes (line ++ 10 ∷ []));
+        unmet = opens s.unmet;
+        wrote = Appends-trans written0 written now s.text out s.wrote wrote;
+      })
+
+  -- the reply to a whole line that is no BYE was begun
+  pub whole_line_breaks : (line front out : List ℕ) (count : ℕ) → NoFeed line
+      → Goes held left held2 after_left (line ++ 10 ∷ []) → front ≡ front_of line
+      → IsQuiet open_text front → Gives alone records own (gives open_text front) out after own2
+      → Appends written now (take count out)
+      → Breaks left0 written0 after_left met now alone seen0 own0 after own2
+  whole_line_breaks line front out count clean goes is quiet given wrote =
+      breaks_by ((s.bytes ++ (line ++ 10 ∷ [])) ++ held2.bytes) out (gives open_text (front_of line))
+      (items_on met (next_text open_text (front_of line)) held2.bytes) count
+      (line_items alone seen0 own0 s.bytes s.text records own open_text s.serves met line held2.bytes clean
+      (subst (IsQuiet open_text) is quiet))
+      (gives-one open_text (front_of line))
+      (subst (λ (f : List ℕ). Gives alone records own (gives open_text f) out after own2) is given)
+      (taken_line line goes) wrote
+
+  -- the input ended between two lines, and what is owed then was written
+  pub end_whole : (owed : List ℕ) → Passes held left held2 after_left [] → IsOver met after_left
+      → Gives alone records own (items_from true open_text []) owed after own2
+      → Appends written now owed → EndsWhole left0 written0 after_left met now alone seen0 own0 after own2
+  end_whole owed passes over given wrote =
+      ends_by (IsComplete met after_left) s.bytes owed (items_from true open_text [])
+      (ap (λ e. items_of e s.bytes) over.0 ∙ end_items alone seen0 own0 s.bytes s.text records own open_text
+      s.serves) given
+      (subst (Consumes left0 after_left) (append-nil s.bytes) (taken_part [] passes)) wrote (inr over)
+
+  -- and a part of it was written
+  pub end_breaks : (owed : List ℕ) (count : ℕ) → Passes held left held2 after_left [] → IsOver met after_left
+      → Gives alone records own (items_from true open_text []) owed after own2
+      → Appends written now (take count owed)
+      → Breaks left0 written0 after_left met now alone seen0 own0 after own2
+  end_breaks owed count passes over given wrote =
+      breaks_by s.bytes owed (items_from true open_text []) [] count
+      (ap (λ e. items_of e s.bytes) over.0 ∙ end_items alone seen0 own0 s.bytes s.text records own open_text s.serves
+      ∙ sym (append-nil (s.serves.done ++ items_from true open_text [])))
+      (ends-one open_text) given (subst (Consumes left0 after_left) (append-nil s.bytes) (taken_part [] passes)) wrote
+
+  -- the reply to the last line, which has no line feed, was begun
+  pub last_line_breaks : (line front out : List ℕ) (count : ℕ) → Passes held left held2 after_left line
+      → 0 < length line → front ≡ front_of line → IsOver met after_left
+      → IsQuiet open_text front → Gives alone records own (gives open_text front) out after own2
+      → Appends written now (take count out)
+      → Breaks left0 written0 after_left met now alone seen0 own0 after own2
+  last_line_breaks [] front out count passes some is over quiet given wrote = absurd (omega arith)
+  last_line_breaks (b ∷ line) front out count passes some is over quiet given wrote =
+      breaks_by (s.bytes ++ b ∷ line) out (gives open_text (front_of (b ∷ line)))
+      (items_from true (next_text open_text (front_of (b ∷ line))) []) count
+      (ap (λ e. items_of e (s.bytes ++ b ∷ line)) over.0
+      ∙ last_items alone seen0 own0 s.bytes s.text records own open_text s.serves b line passes.clean (subst
+      (IsQuiet open_text) is quiet))
+      (gives-one open_text (front_of (b ∷ line)))
+      (subst (λ (f : List ℕ). Gives alone records own (gives open_text f) out after own2) is given) (taken_part
+      (b ∷ line) passes)
+      wrote
+
+  -- a part of a line came, and no more
+  pub stops : (P : List ℕ → List Item → Type 0) (line : List ℕ) → Passes held left held2 after_left line
+      → met ≡ false → Appends written now [] → Gives alone records own [] [] after own2
+      → (length (s.bytes ++ line) ≡ held2.taken → NoBye s.serves.done → P (s.bytes ++ line) s.serves.done)
+      → Ends P left0 written0 after_left met now (IsServed alone seen0 own0 after own2)
+  stops P line passes unmet wrote given why =
+      let items : items_of met (s.bytes ++ line) ≡ s.serves.done =
+      ap (λ e. items_of e (s.bytes ++ line)) unmet ∙ stops_items alone seen0 own0 s.bytes s.text records own
+      open_text s.serves line
+      passes.clean in
+      let count : length (s.bytes ++ line) ≡ held2.taken =
+      omega (arith, s.count, passes.goes.count, ap length passes.spent, length-append s.bytes line) in
+      ends_by P (s.bytes ++ line) [] [] (items ∙ sym (append-nil s.serves.done))
+      given
+      (taken_part line passes) wrote
+      (subst (λ (is : List Item). P (s.bytes ++ line) is) (sym items) (why count s.serves.quiet))
+
+  -- the last line, which has no line feed, was answered, and what is owed then was written
+  pub last_line_ends : (mid : List RecordView) (own1 : ℕ) (line front out owed : List ℕ)
+      → Passes held left held2 after_left line
+      → 0 < length line
+      → front ≡ front_of line → IsOver met after_left → IsQuiet open_text front
+      → Gives alone records own (gives open_text front) out mid own1
+      → Gives alone mid own1 (items_from true (next_text open_text front) []) owed after own2
+      → Appends written now (out ++ owed)
+      → EndsWhole left0 written0 after_left met now alone seen0 own0 after own2
+  last_line_ends mid own1 [] front out owed passes some is over quiet given closes wrote = absurd (omega arith)
+  last_line_ends mid own1 (b ∷ line) front out owed passes some is over quiet given closes wrote =
+      let last = items_from true (next_text open_text front) [] in
+      let next_line : items_of met (s.bytes ++ b ∷ line) ≡ s.serves.done ++ (gives open_text front ++ last) =
+      ap (λ e. items_of e (s.bytes ++ b ∷ line)) over.0
+      ∙ last_items alone seen0 own0 s.bytes s.text records own open_text s.serves b line passes.clean (subst
+      (IsQuiet open_text) is quiet)
+      ∙ ap (λ (f : List ℕ). (s.serves.done ++ gives open_text f) ++ items_from true (next_text open_text f) [])
+      (sym is)
+      ∙ append_assoc s.serves.done (gives open_text front) last in
+      ends_by (IsComplete met after_left) (s.bytes ++ b ∷ line) (out ++ owed)
+      (gives open_text front ++ last) next_line
+      (Gives-join alone records mid after own own1 own2 (gives open_text front) last out owed given closes)
+      (taken_part (b ∷ line) passes) wrote (inr over)
+
+  -- the last line was answered, and only a part of what is owed then was written
+  pub closing_breaks : (mid : List RecordView) (own1 : ℕ) (line front out owed : List ℕ) (count : ℕ)
+      → Passes held left held2 after_left line → 0 < length line
+      → front ≡ front_of line → IsOver met after_left → IsQuiet open_text front
+      → Gives alone records own (gives open_text front) out mid own1
+      → Gives alone mid own1 (items_from true (next_text open_text front) []) owed after own2
+      → Appends written now (out ++ take count owed)
+      → Breaks left0 written0 after_left met now alone seen0 own0 after own2
+  closing_breaks mid own1 [] front out owed count passes some is over quiet given closes wrote = absurd (omega arith)
+  closing_breaks mid own1 (b ∷ line) front out owed count passes some is over quiet given closes wrote =
+      let last = items_from true (next_text open_text front) [] in
+      let a = IsServed-on alone seen0 own0 records mid own own1 s.serves.done (gives open_text front) s.text out
+      s.serves.answered given in
+      let e = closes.leads.on a.answers.last a.answers.reached in record {
+        bytes = s.bytes ++ b ∷ line;
+        earlier = s.serves.done ++ gives open_text front;
+        last = last;
+        behind = [];
+        text = s.text ++ out;
+        reply = owed;
+        seen = a.answers.last;
+        final = e.last;
+        loads = a.loads;
+        loaded = closes.loads;
+        count = count;
+        whole = ap (λ e. items_of e (s.bytes ++ b ∷ line)) over.0
+            ∙ last_items alone seen0 own0 s.bytes s.text records own open_text s.serves b line passes.clean
+            (subst (IsQuiet open_text) is quiet)
+            ∙ ap (λ (f : List ℕ). (s.serves.done ++ gives open_text f) ++ items_from true (next_text open_text f)
+            []) (sym is)
+            ∙ sym (append-nil ((s.serves.done ++ gives open_text front) ++ last));
+        one = ends-one (next_text open_text front);
+        grows = Grows-trans seen0 mid after a.grows closes.leads.grows;
+        before = Answers-grow alone mid after (length seen0) (s.serves.done ++ gives open_text front) (s.text ++ out)
+            a.answers.last a.loads closes.leads.grows closes.leads.few a.answers.holds;
+        answers = e.holds;
+        reached = e.reached;
+        counted = omega (arith, a.counted, closes.counted);
+        gone = taken_part (b ∷ line) passes;
+        wrote = subst (Appends written0 now) (sym (append_assoc s.text out (take count owed)))
+            (Appends-trans written0 written now s.text (out ++ take count owed) s.wrote wrote);
+      }
+
+module _ (alone : Bool) (seen0 : List RecordView) (own0 : ℕ)
+    (left0 written0 left written now after_left : Option (List ℕ)) (ended met : Bool) (held held2 : Held)
+    (records after : List RecordView) (own own2 : ℕ) (reply : List ℕ)
+    (s : SoFar alone seen0 own0 left0 written0 held left ended written records own None)
+    (given : Gives alone records own (Bye ∷ []) reply after own2) where
+  -- the items of a whole line BYE
+  line_bye : (line front : List ℕ) → NoFeed line → front ≡ front_of line → IsByeLine front
+      → items_of met ((s.bytes ++ (line ++ 10 ∷ [])) ++ held2.bytes) ≡ s.serves.done ++ Bye ∷ []
+  line_bye line front clean is bye =
+      let joined : (s.bytes ++ (line ++ 10 ∷ [])) ++ held2.bytes ≡ s.bytes ++ (line ++ 10 ∷ held2.bytes) =
+      simp append_assoc in
+      ap (items_of met) joined ∙ bye_items alone seen0 own0 s.bytes s.text records own s.serves met line held2.bytes
+      clean
+      (subst IsByeLine is bye)
+
+  -- the items of a BYE that the end of the input ends
+  last_bye : (b : ℕ) (line front : List ℕ) → NoFeed (b ∷ line) → front ≡ front_of (b ∷ line) → IsOver met after_left
+      → IsByeLine front
+      → items_of met (s.bytes ++ b ∷ line) ≡ s.serves.done ++ Bye ∷ []
+  last_bye b line front clean is over bye =
+      ap (λ e. items_of e (s.bytes ++ b ∷ line)) over.0 ∙ bye_last_items alone seen0 own0 s.bytes s.text records own
+      s.serves b line
+      clean (subst IsByeLine is bye)
+
+  -- a whole line BYE was answered
+  pub bye_ends : (line front : List ℕ) → NoFeed line → Goes held left held2 after_left (line ++ 10 ∷ [])
+      → front ≡ front_of line → IsByeLine front
+      → Appends written now reply → EndsWhole left0 written0 after_left met now alone seen0 own0 after own2
+  bye_ends line front clean goes is bye wrote =
+      ends_by alone seen0 own0 left0 written0 left written now after_left ended met held held2 records after own own2
+      None s
+      (IsComplete met after_left)
+      ((s.bytes ++ (line ++ 10 ∷ [])) ++ held2.bytes) reply (Bye ∷ [])
+      (line_bye line front clean is bye) given
+      (taken_line alone seen0 own0 left0 written0 left written now after_left ended met held held2 records after own
+      own2
+      None s line goes) wrote
+      (inl (s.serves.done, line_bye line front clean is bye))
+
+  -- and its reply was begun
+  pub bye_breaks : (line front : List ℕ) (count : ℕ) → NoFeed line
+      → Goes held left held2 after_left (line ++ 10 ∷ []) → front ≡ front_of line → IsByeLine front
+      → Appends written now (take count reply) → Breaks left0 written0 after_left met now alone seen0 own0 after own2
+  bye_breaks line front count clean goes is bye wrote =
+      breaks_by alone seen0 own0 left0 written0 left written now after_left ended met held held2 records after own
+      own2
+      None s
+      ((s.bytes ++ (line ++ 10 ∷ [])) ++ held2.bytes) reply (Bye ∷ []) [] count
+      (line_bye line front clean is bye ∙ sym (append-nil (s.serves.done ++ Bye ∷ []))) (omega arith) given
+      (taken_line alone seen0 own0 left0 written0 left written now after_left ended met held held2 records after own
+      own2
+      None s line goes) wrote
+
+  -- a BYE that the end of the input ends was answered
+  pub last_bye_ends : (line front : List ℕ) → Passes held left held2 after_left line → 0 < length line
+      → front ≡ front_of line → IsOver met after_left → IsByeLine front
+      → Appends written now reply → EndsWhole left0 written0 after_left met now alone seen0 own0 after own2
+  last_bye_ends [] front passes some is over bye wrote = absurd (omega arith)
+  last_bye_ends (b ∷ line) front passes some is over bye wrote =
+      ends_by alone seen0 own0 left0 written0 left written now after_left ended met held held2 records after own own2
+      None s
+      (IsComplete met after_left)
+      (s.bytes ++ b ∷ line) reply (Bye ∷ []) (last_bye b line front passes.clean is over bye)
+      given
+      (taken_part alone seen0 own0 left0 written0 left written now after_left ended met held held2 records after own
+      own2
+      None s (b ∷ line)
+      passes) wrote
+      (inl (s.serves.done, last_bye b line front passes.clean is over bye))
+
+  -- and its reply was begun
+  pub last_bye_breaks : (line front : List ℕ) (count : ℕ) → Passes held left held2 after_left line → 0 < length line
+      → front ≡ front_of line → IsOver met after_left → IsByeLine front
+      → Appends written now (take count reply) → Breaks left0 written0 after_left met now alone seen0 own0 after own2
+  last_bye_breaks [] front count passes some is over bye wrote = absurd (omega arith)
+  last_bye_breaks (b ∷ line) front count passes some is over bye wrote =
+      breaks_by alone seen0 own0 left0 written0 left written now after_left ended met held held2 records after own
+      own2
+      None s
+      (s.bytes ++ b ∷ line) reply (Bye ∷ []) [] count
+      (last_bye b line front passes.clean is over bye ∙ sym (append-nil (s.serves.done ++ Bye ∷ []))) (omega arith)
+      given
+      (taken_part alone seen0 own0 left0 written0 left written now after_left ended met held held2 records after own
+      own2
+      None s (b ∷ line)
+      passes) wrote

@@ -1,0 +1,149 @@
+-- The definition of a session's answers on small sessions.
+use Rattle.std.proofs.Common.{◌≡◌, ℕ, List, [], ◌∷◌, Ok, Err, true, false, refl, inl, codes, arith}
+use Rattle.std.specs.Fmt.{digits}
+use Rattle.cut_model.specs.Cuts.{IsLeastCut, set_of, cut_value}
+use Rattle.cut_model.specs.Net.{Net}
+use Rattle.network_text.specs.Sheets.{SheetView}
+use Rattle.network_text.specs.Texts.{verdict_of}
+use Rattle.network_text.specs.declared.fault.TextKind.TheVariants.{UnknownWord, NoTerminal, EndedEarly}
+use Rattle.session.specs.Answers.{Alone, Answers, IsTold}
+use Rattle.query_lang.specs.Replies.{loaded_text, bye_text, refused_text, cut_text}
+use Rattle.text_forms.specs.Items.{Item, Ask, Load, Bye, items_of}
+use Rattle.tree_versions.specs.Records.{RecordView}
+
+-- two routers and a link of 5
+abbrev pair : Net
+pair = record { routers = 2; links = record { a = 0; b = 1; cap = 5 } ∷ [] }
+
+abbrev sheet : SheetView
+sheet = record { names = codes "a" ∷ codes "b" ∷ []; net = pair }
+
+-- the text `link a b 5` has this sheet
+verdict : verdict_of (codes "link a b 5" ∷ []) true ≡ Ok sheet
+verdict = refl
+
+-- a text without its END has none, and neither has one with a line of another form, or without a router
+unfinished : verdict_of (codes "link a b 5" ∷ []) false ≡ Err (record { kind = EndedEarly; line = 2 })
+unfinished = refl
+
+faulty : verdict_of (codes "link a b 5" ∷ codes "routers c" ∷ []) true ≡ Err (record { kind = UnknownWord; line = 2 })
+faulty = refl
+
+no_router : verdict_of (codes "# nothing" ∷ []) true ≡ Err (record { kind = NoTerminal; line = 2 })
+no_router = refl
+
+-- the side of the first router alone is a least cut, and its value is that of the link
+least : IsLeastCut pair 0 1 (set_of (true ∷ false ∷ [])) 5
+unfolding cut_value
+least = record { holds = refl; lacks = refl; value = refl; least = λ Y holds lacks. rw (holds, lacks) (omega arith) }
+
+items : List Item
+items = Load (codes "link a b 5" ∷ []) true ∷ Ask (codes "CUT a b") ∷ Ask (codes "CUT a a") ∷ Load [] true ∷ Bye ∷ []
+
+-- the items of a small session
+items_are : items_of true (codes "LOAD\nlink a b 5\nEND\n# note\nCUT a b\nCUT a a\nLOAD\nEND\nBYE\nCUT a b\n") ≡ items
+unfolding items
+items_are = refl
+
+-- the record that it publishes
+abbrev made : RecordView
+made = record {
+  sheet = sheet;
+  history = record { router = 1; neighbour = 0; value = 5; side = false ∷ true ∷ [] } ∷
+      [];
+}
+
+-- a reply by version 1 that publishes nothing
+by_first : (P : Type 0) → P → IsTold true (made ∷ []) 1 1 0 P
+by_first P told = record {
+  stays = record { later = omega arith; there = omega arith; same = λ only. refl };
+  told = told;
+  counted = refl;
+}
+
+-- and the text that answers them
+answered : Alone (made ∷ []) 0 items
+    (codes "@1 LOADED routers 2 links 1\n@1 CUT 5 side a\n@1 NO 5\n@1 NO 18 line 1\n@1 BYE\n")
+unfolding items loaded_text bye_text refused_text cut_text digits
+answered = record {
+  loads = 1;
+  answers = record {
+    reply = codes "@1 LOADED routers 2 links 1\n";
+    rest = codes "@1 CUT 5 side a\n@1 NO 5\n@1 NO 18 line 1\n@1 BYE\n";
+    next = 1;
+    loaded = 1;
+    others = 0;
+    step = inl (record {
+      later = omega arith;
+      made = made;
+      place = refl;
+      shows = refl;
+      there = omega arith;
+      text = refl;
+      same = λ only. refl;
+      counted = refl;
+    });
+    joins = refl;
+    sum = refl;
+    on = record {
+      reply = codes "@1 CUT 5 side a\n";
+      rest = codes "@1 NO 5\n@1 NO 18 line 1\n@1 BYE\n";
+      next = 1;
+      loaded = 0;
+      others = 0;
+      step = by_first _ (record { side = true ∷ false ∷ []; value = 5; size = refl; least = least; text = refl });
+      joins = refl;
+      sum = refl;
+      on = record {
+        reply = codes "@1 NO 5\n";
+        rest = codes "@1 NO 18 line 1\n@1 BYE\n";
+        next = 1;
+        loaded = 0;
+        others = 0;
+        step = by_first _ refl;
+        joins = refl;
+        sum = refl;
+        on = record {
+          reply = codes "@1 NO 18 line 1\n";
+          rest = codes "@1 BYE\n";
+          next = 1;
+          loaded = 0;
+          others = 0;
+          step = by_first _ (inl refl);
+          joins = refl;
+          sum = refl;
+          on = record {
+            reply = codes "@1 BYE\n";
+            rest = [];
+            next = 1;
+            loaded = 0;
+            others = 0;
+            step = by_first _ refl;
+            joins = refl;
+            sum = refl;
+            on = (refl, refl, refl);
+          };
+        };
+      };
+    };
+  };
+}
+
+-- where others publish, a session that saw one record may answer from a later one
+later : Answers false (made ∷ made ∷ made ∷ []) 1 (Bye ∷ []) (codes "@3 BYE\n") 3 0
+unfolding bye_text digits
+later = record {
+  reply = codes "@3 BYE\n";
+  rest = [];
+  next = 3;
+  loaded = 0;
+  others = 0;
+  step = record {
+    stays = record { later = omega arith; there = omega arith; same = λ only. absurd (cc) };
+    told = refl;
+    counted = refl;
+  };
+  joins = refl;
+  sum = refl;
+  on = (refl, refl, refl);
+}

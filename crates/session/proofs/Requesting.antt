@@ -1,0 +1,137 @@
+-- What a request line gets between two items.
+use Rattle.std.proofs.Common.{◌≡◌, ℕ, ◌≤◌, List, [], ◌∷◌, length, Bool, true, false, None, Some, refl, sym}
+use Rattle.std.proofs.Common.{ap, ◌∙◌, arith, subst, Result, Ok, Err}
+use Rattle.std.specs.declared.option.Option.{Option}
+use Rattle.network_text.specs.Sheets.{SheetView}
+use Rattle.query_lang.specs.Replies.{bye_text, refused_text}
+use Rattle.query_lang.specs.Requests.{request_of, fault_number}
+use Rattle.query_lang.specs.declared.request.Request.{Request}
+use Rattle.query_lang.specs.declared.request.Request.TheVariants.{Nothing, Load, Cut, Net, Bye}
+use Rattle.query_lang.specs.declared.request.RequestFault.{RequestFault}
+use Rattle.query_lang.proofs.RequestKinds.{IsKind, request_kind}
+use Rattle.session.specs.Answers.{IsReply, RepliesTo, Step, sheet_in}
+use Rattle.session.specs.Modes.{next_text, gives, Gives, IsByeLine}
+use Rattle.session.specs.Taking.{Holds, IsTaken, IsByeTaken}
+use Rattle.session.specs.declared.intake.Intake.{Intake}
+use Rattle.session.proofs.Answering.{Gives-none, Gives-one, look_leads}
+use Rattle.text_forms.specs.Items.{Item, Ask, Bye as ByeItem}
+use Rattle.text_forms.specs.Words.{is_passed, is_load, is_bye}
+use Rattle.tree_versions.specs.Records.{RecordView, record_at}
+use Rattle.tree_versions.specs.Shelves.{Looks}
+
+-- a line that asks something of a record
+pub record IsAsk (line : List ℕ) : Type 0 where
+  pub passed : is_passed line ≡ false
+  pub load : is_load line ≡ false
+  pub bye : is_bye line ≡ false
+
+-- what an answer says of its line
+kind : (sheet : Option SheetView) (line : List ℕ) (answer : Result Request RequestFault)
+    → answer ≡ request_of sheet line → IsKind answer (is_passed line) (is_load line) (is_bye line)
+kind sheet line answer is =
+    subst (λ (a : Result Request RequestFault). IsKind a (is_passed line) (is_load line) (is_bye line)) (sym is)
+    (request_kind sheet line)
+
+-- a refused line asked something
+fault_asks : (sheet : Option SheetView) (line : List ℕ) (fault : RequestFault)
+    → Err fault ≡ request_of sheet line → IsAsk line
+fault_asks sheet line fault is =
+    let k = kind sheet line (Err fault) is in record { passed = k.0; load = k.1; bye = k.2 }
+
+-- and so did a CUT
+cut_asks : (sheet : Option SheetView) (line : List ℕ) (a b : ℕ)
+    → Ok (Cut a b) ≡ request_of sheet line → IsAsk line
+cut_asks sheet line a b is =
+    let k = kind sheet line (Ok (Cut a b)) is in record { passed = k.0; load = k.1; bye = k.2 }
+
+-- and a NET
+net_asks : (sheet : Option SheetView) (line : List ℕ) → Ok Net ≡ request_of sheet line → IsAsk line
+net_asks sheet line is =
+    let k = kind sheet line (Ok Net) is in record { passed = k.0; load = k.1; bye = k.2 }
+
+module _ (alone : Bool) (old new : List RecordView) (own own2 : ℕ) (few : length new ≤ 256)
+    (looks : Looks alone old new) (kept : own2 ≡ own) (version : ℕ) (seen : Option RecordView)
+    (last : version ≡ length new) (shows : seen ≡ record_at new version) (intake : Intake) (line : List ℕ) where
+  -- the item of an ask
+  ask_gives : IsAsk line → gives None line ≡ Ask line ∷ []
+  ask_gives ask = rw (ask.passed, ask.load) refl
+
+  -- an ask is answered by a reply to what it asks for
+  answered : (answer : Result Request RequestFault) (reply : List ℕ) → IsAsk line → Holds intake None
+      → answer ≡ request_of (sheet_in seen) line → RepliesTo seen version answer reply
+      → IsTaken alone old own new own2 None intake line reply
+  answered answer reply ask holds is replies = record {
+    quiet = λ none passed load. ask.bye;
+    given = subst (λ (items : List Item). Gives alone old own items reply new own2) (sym (ask_gives ask))
+        (Gives-one alone old new own own2 (Ask line) reply 0 (omega (arith, kept))
+        (look_leads alone old new own own2 few looks kept
+        (λ seen next. Step alone new seen (Ask line) reply next 0)
+        (λ seen stays. record { stays = stays; told = told; counted = refl })));
+    holds = subst (λ (text : Option (List (List ℕ))). Holds intake text) (sym next_is) holds;
+  }
+    where
+      next_is : next_text None line ≡ None
+      next_is = rw (ask.passed, ask.load) refl
+
+      from_seen : IsReply seen version line reply
+      from_seen = subst (λ (a : Result Request RequestFault). RepliesTo seen version a reply) is replies
+
+      told : IsReply (record_at new (length new)) (length new) line reply
+      told = subst (λ (n : ℕ). IsReply (record_at new n) n line reply) last
+          (subst (λ (r : Option RecordView). IsReply r version line reply) shows from_seen)
+
+  -- a refused line is answered by the refusal
+  pub refused_taken : (fault : RequestFault) (reply : List ℕ) → Holds intake None
+      → Err fault ≡ request_of (sheet_in seen) line → reply ≡ refused_text version (fault_number fault) None
+      → IsTaken alone old own new own2 None intake line reply
+  refused_taken fault reply holds is text =
+      answered (Err fault) reply (fault_asks (sheet_in seen) line fault is) holds is text
+
+  -- a CUT is answered by a cut of its routers
+  pub cut_taken : (a b : ℕ) (reply : List ℕ) → Holds intake None → Ok (Cut a b) ≡ request_of (sheet_in seen) line
+      → RepliesTo seen version (Ok (Cut a b)) reply → IsTaken alone old own new own2 None intake line reply
+  cut_taken a b reply holds is replies =
+      answered (Ok (Cut a b)) reply (cut_asks (sheet_in seen) line a b is) holds is replies
+
+  -- a NET is answered by the network
+  pub net_taken : (reply : List ℕ) → Holds intake None → Ok Net ≡ request_of (sheet_in seen) line
+      → RepliesTo seen version (Ok Net) reply → IsTaken alone old own new own2 None intake line reply
+  net_taken reply holds is replies = answered (Ok Net) reply (net_asks (sheet_in seen) line is) holds is replies
+
+  -- a line that is passed over gets no reply
+  pub passed_taken : Holds intake None → Ok Nothing ≡ request_of (sheet_in seen) line
+      → IsTaken alone old own new own2 None intake line []
+  passed_taken holds is =
+      let passed : is_passed line ≡ true = kind (sheet_in seen) line (Ok Nothing) is in
+      let gives_is : gives None line ≡ [] = rw passed refl in
+      let next_is : next_text None line ≡ None = rw passed refl in record {
+        quiet = λ none unpassed load. absurd (let e : true ≡ false = sym passed ∙ unpassed in cc);
+        given = subst (λ (items : List Item). Gives alone old own items [] new own2) (sym gives_is)
+            (Gives-none alone old new own own2 few looks kept);
+        holds = subst (λ (text : Option (List (List ℕ))). Holds intake text) (sym next_is) holds;
+      }
+
+  -- neither does one that begins a text
+  pub load_taken : Holds intake (Some []) → Ok Load ≡ request_of (sheet_in seen) line
+      → IsTaken alone old own new own2 None intake line []
+  load_taken holds is =
+      let k = kind (sheet_in seen) line (Ok Load) is in
+      let gives_is : gives None line ≡ [] = rw (k.0, k.1) refl in
+      let next_is : next_text None line ≡ Some [] = rw (k.0, k.1) refl in record {
+        quiet = λ none unpassed unload. absurd (let e : true ≡ false = sym k.1 ∙ unload in cc);
+        given = subst (λ (items : List Item). Gives alone old own items [] new own2) (sym gives_is)
+            (Gives-none alone old new own own2 few looks kept);
+        holds = subst (λ (text : Option (List (List ℕ))). Holds intake text) (sym next_is) holds;
+      }
+
+  -- a BYE is answered
+  pub bye_taken : (reply : List ℕ) → Ok Bye ≡ request_of (sheet_in seen) line → reply ≡ bye_text version
+      → IsByeTaken alone old own new own2 None line reply
+  bye_taken reply is text =
+      let k = kind (sheet_in seen) line (Ok Bye) is in record {
+        between = refl;
+        bye = record { passed = k.0; load = k.1; bye = k.2 };
+        given = Gives-one alone old new own own2 ByeItem reply 0 (omega (arith, kept))
+            (look_leads alone old new own own2 few looks kept (λ seen next. Step alone new seen ByeItem reply next 0)
+            (λ seen stays. record { stays = stays; told = text ∙ ap bye_text last; counted = refl }));
+      }

@@ -1,0 +1,130 @@
+-- Which text answers the items of a session, over the records that its shelf has seen.
+use Rattle.std.specs.Prelude.{◌≡◌, ℕ, ◌+◌, ◌<◌, ◌≤◌, ◌⊎◌, List, [], ◌∷◌, ◌++◌, Bool, true, length, Some, None}
+use Rattle.std.specs.Prelude.{Result, Ok, Err}
+use Rattle.std.specs.declared.option.Option.{Option}
+use Rattle.cut_model.specs.Cuts.{IsLeastCut, set_of}
+use Rattle.network_text.specs.Faults.{kind_number}
+use Rattle.network_text.specs.Sheets.{SheetView}
+use Rattle.network_text.specs.Texts.{verdict_of}
+use Rattle.network_text.specs.declared.fault.TextFault.{TextFault}
+use Rattle.query_lang.specs.Requests.{request_of, fault_number}
+use Rattle.query_lang.specs.Replies.{loaded_text, bye_text, refused_text, cut_text, net_text}
+use Rattle.query_lang.specs.declared.request.Request.{Request}
+use Rattle.query_lang.specs.declared.request.Request.TheVariants.{Cut, Net}
+use Rattle.query_lang.specs.declared.request.RequestFault.{RequestFault}
+use Rattle.text_forms.specs.Items.{Item, Ask, Load, Bye}
+use Rattle.tree_versions.specs.Records.{RecordView, record_at}
+
+-- a reply that prints a least cut of routers a and b, whichever it is
+pub record IsCutReply (sheet : SheetView) (version a b : ℕ) (reply : List ℕ) : Type 0 where
+  pub side : List Bool
+  pub value : ℕ
+  pub size : length side ≡ sheet.net.routers
+  pub least : IsLeastCut sheet.net a b (set_of side) value
+  pub text : reply ≡ cut_text version value sheet.names side
+
+-- a reply from a record to what a request line asks for
+abbrev pub RepliesFrom : RecordView → ℕ → Request → List ℕ → Type 0
+RepliesFrom seen version (Cut a b) reply = IsCutReply seen.sheet version a b reply
+RepliesFrom seen version Net reply = reply ≡ net_text version seen.sheet
+RepliesFrom seen version request reply = ⊥
+
+-- the reply to a request line: its refusal, or a reply from the record of the version
+abbrev pub RepliesTo : Option RecordView → ℕ → Result Request RequestFault → List ℕ → Type 0
+RepliesTo seen version (Err fault) reply = reply ≡ refused_text version (fault_number fault) None
+RepliesTo (Some seen) version (Ok request) reply = RepliesFrom seen version request reply
+RepliesTo None version (Ok request) reply = ⊥
+
+-- the sheet of a record
+abbrev pub sheet_in : Option RecordView → Option SheetView
+sheet_in None = None
+sheet_in (Some seen) = Some seen.sheet
+
+-- a reply to a request line from the record of this version
+abbrev pub IsReply : Option RecordView → ℕ → List ℕ → List ℕ → Type 0
+IsReply seen version line reply = RepliesTo seen version (request_of (sheet_in seen) line) reply
+
+-- the refusal of a text for its fault; want of memory may be told in its place
+abbrev pub IsTextRefusal : ℕ → TextFault → List ℕ → Type 0
+IsTextRefusal version fault reply =
+    (reply ≡ refused_text version (kind_number fault.kind) (Some fault.line)) ⊎ (reply ≡ refused_text version 90 None)
+
+-- The version of a reply that publishes nothing: none older than was seen, of a record that is there, and where
+-- nobody else publishes the one that was seen.
+pub record Stays (alone : Bool) (records : List RecordView) (seen next : ℕ) : Type 0 where
+  pub later : seen ≤ next
+  pub there : next ≤ length records
+  pub same : alone ≡ true → next ≡ seen
+
+-- A network was accepted: a later record has its sheet, where nobody else publishes the next.
+pub record IsLoaded (alone : Bool) (records : List RecordView) (seen : ℕ) (sheet : SheetView) (reply : List ℕ)
+    (next loads : ℕ) : Type 0 where
+  pub later : seen < next
+  pub made : RecordView
+  pub place : record_at records next ≡ Some made
+  pub shows : made.sheet ≡ sheet
+  pub there : next ≤ length records
+  pub text : reply ≡ loaded_text next sheet.net
+  pub same : alone ≡ true → next ≡ seen + 1
+  pub counted : loads ≡ 1
+
+-- No record can be added to 256.
+pub record IsRefusedFull (alone : Bool) (records : List RecordView) (seen : ℕ) (reply : List ℕ) (next loads : ℕ) :
+    Type 0 where
+  pub full : length records ≡ 256
+  pub all : next ≡ 256
+  pub later : seen ≤ next
+  pub text : reply ≡ refused_text 256 20 None
+  pub same : alone ≡ true → seen ≡ 256
+  pub counted : loads ≡ 0
+
+-- Nothing was published, and the reply is as told.
+pub record IsTold (alone : Bool) (records : List RecordView) (seen next loads : ℕ) (told_so : Type 0) : Type 0 where
+  pub stays : Stays alone records seen next
+  pub told : told_so
+  pub counted : loads ≡ 0
+
+-- A network with this verdict was loaded: a faulty text is refused; a sheet is published, or refused where 256 records
+-- stand; want of memory may come in place of each of these.
+abbrev pub LoadStep : Bool → List RecordView → ℕ → Result SheetView TextFault → List ℕ → ℕ → ℕ → Type 0
+LoadStep alone records seen (Err fault) reply next loads =
+    IsTold alone records seen next loads (IsTextRefusal next fault reply)
+LoadStep alone records seen (Ok sheet) reply next loads =
+    IsLoaded alone records seen sheet reply next loads
+    ⊎ IsRefusedFull alone records seen reply next loads
+    ⊎ IsTold alone records seen next loads (reply ≡ refused_text next 90 None)
+
+-- An item is answered by the reply, and leads from one version to the next.
+abbrev pub Step : Bool → List RecordView → ℕ → Item → List ℕ → ℕ → ℕ → Type 0
+Step alone records seen (Ask line) reply next loads =
+    IsTold alone records seen next loads (IsReply (record_at records next) next line reply)
+Step alone records seen (Load text whole) reply next loads =
+    LoadStep alone records seen (verdict_of text whole) reply next loads
+Step alone records seen Bye reply next loads = IsTold alone records seen next loads (reply ≡ bye_text next)
+
+-- The text begins with the reply to an item, and P holds of the version after it, the rest of the text and the number
+-- of accepted LOADs in it.
+pub record Begins (alone : Bool) (records : List RecordView) (seen : ℕ) (item : Item) (text : List ℕ) (loads : ℕ)
+    (P : ℕ → List ℕ → ℕ → Type 0) : Type 0 where
+  pub reply : List ℕ
+  pub rest : List ℕ
+  pub next : ℕ
+  pub loaded : ℕ
+  pub others : ℕ
+  pub step : Step alone records seen item reply next loaded
+  pub joins : text ≡ reply ++ rest
+  pub sum : loads ≡ loaded + others
+  pub on : P next rest others
+
+-- The text is the replies to the items, one after another, over these records, from one version to another, and so
+-- many of them accept a network. Where nobody else publishes, each version is the one that the reply before it left.
+abbrev pub Answers : Bool → List RecordView → ℕ → List Item → List ℕ → ℕ → ℕ → Type 0
+Answers alone records seen [] text last loads = (text ≡ []) × (last ≡ seen) × (loads ≡ 0)
+Answers alone records seen (item ∷ items) text last loads = Begins alone records seen item text loads
+    (λ next rest others. Answers alone records next items rest last others)
+
+-- The text answers the items over these records and no others: nobody else publishes, and each record that wasn't seen
+-- before is one of the accepted LOADs, in order.
+pub record Alone (records : List RecordView) (seen : ℕ) (items : List Item) (text : List ℕ) : Type 0 where
+  pub loads : ℕ
+  pub answers : Answers true records seen items text (length records) loads

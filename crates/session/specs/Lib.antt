@@ -1,0 +1,6 @@
+pub mod Answers
+pub mod Modes
+pub mod Sessions
+pub mod Taking
+pub mod Turns
+pub mod Building

@@ -1,0 +1,86 @@
+-- One line in a session, and what stands after the lines that have come.
+use Rattle.std.specs.Prelude.{◌≡◌, ℕ, ◌+◌, ◌≤◌, List, [], ◌∷◌, ◌++◌, Bool, true, false, length, if◌then◌else◌}
+use Rattle.std.specs.Prelude.{None, Some, Result}
+use Rattle.std.specs.declared.option.Option.{Option}
+use Rattle.network_text.specs.Sheets.{SheetView}
+use Rattle.network_text.specs.declared.fault.TextFault.{TextFault}
+use Rattle.session.specs.Answers.{Answers, LoadStep}
+use Rattle.text_forms.specs.Items.{Item, Ask, Load, NoBye, items_from, items_on, items_of}
+use Rattle.text_forms.specs.Words.{is_passed, is_load, is_end, is_bye}
+use Rattle.tree_versions.specs.Records.{RecordView, Grows}
+
+-- the text that is open after a line which is no BYE
+abbrev pub next_text : Option (List (List ℕ)) → List ℕ → Option (List (List ℕ))
+next_text None line = if is_passed line then None else if is_load line then Some [] else None
+next_text (Some text) line = if is_end line then None else Some (text ++ line ∷ [])
+
+-- the item that such a line makes whole, if it does
+abbrev pub gives : Option (List (List ℕ)) → List ℕ → List Item
+gives None line = if is_passed line then [] else if is_load line then [] else Ask line ∷ []
+gives (Some text) line = if is_end line then Load text true ∷ [] else []
+
+-- A version that replies may have come to: none that wasn't seen, and where nobody else publishes the last one.
+pub record IsReached (alone : Bool) (records : List RecordView) (version : ℕ) : Type 0 where
+  pub there : version ≤ length records
+  pub last : alone ≡ true → version ≡ length records
+
+-- P holds of a version that replies may have come to.
+pub record Reaches (alone : Bool) (records : List RecordView) (P : ℕ → Type 0) : Type 0 where
+  pub last : ℕ
+  pub reached : IsReached alone records last
+  pub holds : P last
+
+-- The records grew, and P leads on from each version that replies may have come to before.
+pub record Leads (alone : Bool) (old new : List RecordView) (P : ℕ → ℕ → Type 0) : Type 0 where
+  pub grows : Grows old new
+  pub few : length new ≤ 256
+  pub on : (seen : ℕ) → IsReached alone old seen → Reaches alone new (P seen)
+
+-- The items are answered by the text, which leads from these records to those, and the number of records that were
+-- published grew by the accepted LOADs.
+pub record Gives (alone : Bool) (old : List RecordView) (own : ℕ) (items : List Item) (text : List ℕ)
+    (new : List RecordView) (own2 : ℕ) : Type 0 where
+  pub loads : ℕ
+  pub counted : own2 ≡ own + loads
+  pub leads : Leads alone old new (λ seen next. Answers alone new seen items text next loads)
+
+-- A network with this verdict was loaded, and this is the reply.
+pub record Loads (alone : Bool) (old : List RecordView) (own : ℕ) (verdict : Result SheetView TextFault)
+    (reply : List ℕ) (new : List RecordView) (own2 : ℕ) : Type 0 where
+  pub loads : ℕ
+  pub counted : own2 ≡ own + loads
+  pub leads : Leads alone old new (λ seen next. LoadStep alone new seen verdict reply next loads)
+
+-- The records begin with those that were seen at the start, the text answers the items from their last version on, and
+-- the number of records that were published grew by the accepted LOADs.
+pub record IsServed (alone : Bool) (seen0 : List RecordView) (own0 : ℕ) (records : List RecordView) (own : ℕ)
+    (items : List Item)
+    (text : List ℕ) : Type 0 where
+  pub loads : ℕ
+  pub grows : Grows seen0 records
+  pub counted : own ≡ own0 + loads
+  pub answers : Reaches alone records (λ last. Answers alone records (length seen0) items text last loads)
+
+-- The bytes were answered by the text, up to a text that is open. Whatever bytes come, the whole items are those
+-- that are done and then those from here on.
+pub record Serves (alone : Bool) (seen0 : List RecordView) (own0 : ℕ) (bytes text : List ℕ)
+    (records : List RecordView) (own : ℕ)
+    (open_text : Option (List (List ℕ))) : Type 0 where
+  pub done : List Item
+  pub quiet : NoBye done
+  pub items : (ended : Bool) (more : List ℕ) → items_of ended (bytes ++ more) ≡ done ++ items_on ended open_text more
+  pub answered : IsServed alone seen0 own0 records own done text
+
+-- what is owed where the input ends: the refusal of a text that is open
+abbrev pub Closing : Bool → List RecordView → ℕ → Option (List (List ℕ)) → List ℕ → List RecordView → ℕ → Type 0
+Closing alone old own open_text owed new own2 = Gives alone old own (items_from true open_text []) owed new own2
+
+-- a line that is no BYE between items
+abbrev pub IsQuiet : Option (List (List ℕ)) → List ℕ → Type 0
+IsQuiet open_text line = open_text ≡ None → is_passed line ≡ false → is_load line ≡ false → is_bye line ≡ false
+
+-- a line that is a BYE
+pub record IsByeLine (line : List ℕ) : Type 0 where
+  pub passed : is_passed line ≡ false
+  pub load : is_load line ≡ false
+  pub bye : is_bye line ≡ true

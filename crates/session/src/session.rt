@@ -1,0 +1,81 @@
+//! A session: its scratch, and the call that serves one peer.
+ghost use Rattle.std.specs.Prelude.{◌≡◌, ◌≤◌, ◌<◌};
+ghost use Rattle.session.specs.Turns.{EndsAs};
+ghost use Rattle.wires.specs.Causes.{Rose};
+
+use crate::intake::Intake;
+use crate::serve::{SessionEnd, serve};
+use crate::state::State;
+use cut_model::NoMemory;
+use line_reader::{Line, LineReader};
+use std::alloc::Global;
+use tree_versions::Shelf;
+use wires::Peer;
+
+/// The scratch of a session. Nothing of one session lasts into the next.
+#[derive(Drop)]
+pub struct Session {
+    reader: LineReader,
+    line: Line,
+    state: State,
+}
+
+impl Session {
+    /// Takes all memory that a session needs beside that of the texts that it loads. So many workers
+    /// build its trees, 1 to 16; for now the session builds them alone, whatever their number.
+    ///
+    /// # Errors
+    /// [`NoMemory`] where that memory can't be had.
+    pub fn make(alloc: Global, workers: u32) -> Result<Session, NoMemory>
+        requires some { 0 < workers }
+        requires few { workers ≤ 16 }
+    {
+        let _ = workers;
+        Ok(Session {
+            reader: LineReader::make(alloc)?,
+            line: Line::make(alloc)?,
+            state: State::make(alloc)?,
+        })
+    }
+}
+
+/// Serves one peer: it reads request lines to the end of the input or to BYE, and puts one reply for each
+/// item. Whatever the session was used for before, it begins without bytes and with the records that the
+/// shelf has seen.
+///
+/// The contract says for each end what was written: the replies to the whole items of the bytes that were
+/// taken, over the records that the shelf has seen at the end. At most 2^30 bytes are taken. Bytes that
+/// were read past a BYE are dropped. What a peer doesn't tell of its bytes is left open.
+pub fn serve_session<H: Shelf, P: Peer>(
+    alloc: Global,
+    session: &mut Session,
+    shelf: &mut H,
+    peer: &mut P,
+) -> SessionEnd
+    // What was written answers the items that were read. What is seen begins with what was seen, and so many
+    // records were published as there were accepted LOADs.
+    ensures ends { EndsAs result (P.left peer.old) (P.written peer.old) (P.left peer.new) (P.ended peer.new)
+        (P.written peer.new) (H.alone shelf.old) (H.seen shelf.old) (H.own shelf.old)
+        (H.seen shelf.new) (H.own shelf.new) }
+    ensures alone { H.alone shelf.new ≡ H.alone shelf.old }
+
+    // Each fault has its cause, and no count of faults falls.
+    ensures read_fault { result ≡ SessionEnd.ReadFault → Rose (P.read_faults peer.old) (P.read_faults peer.new) }
+    ensures write_fault { result ≡ SessionEnd.WriteFault → Rose (P.write_faults peer.old) (P.write_faults peer.new) }
+    ensures reads { P.read_faults peer.old ≤ P.read_faults peer.new }
+    ensures writes { P.write_faults peer.old ≤ P.write_faults peer.new }
+
+    // Nothing else of the peer changed.
+    ensures beside { P.beside_peer peer.new ≡ P.beside_peer peer.old }
+{
+    session.reader.restart();
+    session.state.intake = Intake::Between;
+    serve(
+        alloc,
+        &mut session.reader,
+        &mut session.line,
+        &mut session.state,
+        shelf,
+        peer,
+    )
+}

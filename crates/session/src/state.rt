@@ -1,0 +1,388 @@
+//! The state of a session, and what each line does to it. Nothing here reads or writes.
+ghost use Rattle.std.specs.Prelude.{◌≡◌, ◌≢◌, ℕ, ◌+◌, ◌^◌, ◌<◌, ◌≤◌, List, [], None, Some, false};
+ghost use Rattle.std.specs.Prelude.{length, IfOk, Ok, IsFalse, if◌then◌else◌};
+ghost use Rattle.std.specs.Arc.{arc_value};
+ghost use Rattle.std.specs.Option.{option_copied};
+ghost use Rattle.std.specs.declared.option.Option.{Option};
+ghost use Rattle.network_text.specs.Texts.{verdict_of};
+ghost use Rattle.query_lang.specs.Replies.{loaded_text, refused_text};
+ghost use Rattle.query_lang.specs.Requests.{IsOf};
+ghost use Rattle.session.specs.Answers.{IsCutReply, IsTextRefusal, RepliesTo, sheet_in};
+ghost use Rattle.session.specs.Modes.{Closing, Loads};
+ghost use Rattle.session.specs.Taking.{HasRead, Holds, LineTaken, is_stale, lines_in};
+ghost use Rattle.tree_versions.specs.Records.{RecordView, record_at};
+ghost use Rattle.tree_versions.specs.Shelves.{Looks};
+
+use crate::build::build_tree;
+use crate::intake::{Intake, Taken};
+use cut_model::{Network, NoMemory, Side};
+use dinic_flow::FlowDesk;
+use network_text::{Fed, Reader, Sheet, TextFault, TextKind};
+use query_lang::{
+    ReplyBuffer, Request, bye_reply, cut_reply, loaded_reply, net_reply, parse_request,
+    refusal_reply,
+};
+use std::alloc::Global;
+use std::mem;
+use std::sync::Arc;
+use text_forms::is_end;
+use tree_versions::{PublishFault, Record, Shelf};
+
+/// The most routers that a network has.
+const MOST_ROUTERS: u32 = 1024;
+
+/// The most links that a network has.
+const MOST_LINKS: u32 = 8192;
+
+/// The most records that a shelf holds.
+const MOST_RECORDS: u32 = 256;
+
+/// The refusal of a network where the records are as many as can be kept.
+const SHELF_FULL: u32 = 20;
+
+/// The refusal of a text for which there was no memory.
+const OUT_OF_MEMORY: u32 = 90;
+
+/// The text that is open, and all room that replies and trees need.
+#[derive(Drop)]
+pub struct State {
+    pub intake: Intake,
+    pub reply: ReplyBuffer,
+    desk: FlowDesk,
+    ghost desk_room: { desk.room ≡ record { routers = 1024; links = 8192 } },
+    ghost unended: { is_stale intake ≡ false },
+}
+
+/// The record of a version that was seen, if there is one: version 0 has none.
+fn seen_record<H: Shelf>(shelf: &H, version: u32) -> Option<&Record>
+    requires { version ≤ length (H.seen shelf.now) }
+    ensures { option_copied result ≡ record_at (H.seen shelf.now) version }
+{
+    if version == 0 {
+        None
+    } else {
+        Some(shelf.record_at(version))
+    }
+}
+
+/// The sheet of a record, if there is one.
+fn sheet_of<'a>(seen: Option<&'a Record>) -> Option<&'a Sheet>
+    ensures { option_copied result ≡ sheet_in (option_copied seen.entry) }
+{
+    match seen {
+        Some(record) => Some(record.sheet()),
+        None => None,
+    }
+}
+
+/// Begins to read a text.
+fn begin_text(alloc: Global) -> Intake
+    ensures holds { Holds result (Some []) }
+    ensures no_line { lines_in result ≡ 0 }
+    ensures unended { is_stale result ≡ false }
+{
+    match Reader::begin(alloc) {
+        Ok(reader) => Intake::Text(reader),
+        Err(NoMemory) => Intake::Lost,
+    }
+}
+
+/// Makes the reply to a CUT of two routers of a record, by a flow of its own. The side is the least one.
+fn answer_cut(
+    desk: &mut FlowDesk,
+    reply: &mut ReplyBuffer,
+    version: u32,
+    seen: &Record,
+    a: u32,
+    b: u32,
+)
+    requires differ { a ≢ b }
+    requires a { a < seen.now.sheet.net.routers }
+    requires b { b < seen.now.sheet.net.routers }
+    requires room { desk.old.room ≡ record { routers = 1024; links = 8192 } }
+    ensures reply { IsCutReply seen.now.sheet version a b reply.new }
+    ensures room { desk.new.room ≡ desk.old.room }
+{
+    let sheet = seen.sheet();
+    let net: &Network = sheet.net();
+    let mut side = Side::empty(net.routers());
+    let value = desk.least_cut_uncounted(net, a, b, &mut side);
+    cut_reply(reply, version, value, sheet, &side);
+}
+
+impl State {
+    /// The state between two items, with the room for one reply and for the flows of the largest
+    /// network.
+    ///
+    /// # Errors
+    /// [`NoMemory`] where the memory of one of these can't be had.
+    pub fn make(alloc: Global) -> Result<State, NoMemory>
+        ensures between { IfOk result (λ state. Holds state.intake None) }
+    {
+        Ok(State {
+            intake: Intake::Between,
+            reply: ReplyBuffer::make(alloc)?,
+            desk: FlowDesk::with_room(alloc, MOST_ROUTERS, MOST_LINKS)?,
+        })
+    }
+
+    /// Makes a refusal by a version; that of a text tells its line.
+    fn refuse(&mut self, version: u32, number: u32, line: Option<u32>)
+        ensures reply { self.new.reply ≡ refused_text version number line }
+        ensures intake { self.new.intake ≡ self.old.intake }
+    {
+        refusal_reply(&mut self.reply, version, number, line);
+    }
+
+    /// Looks at the shelf, and makes a refusal by the last version.
+    fn refuse_load<H: Shelf>(&mut self, shelf: &mut H, number: u32, line: Option<u32>)
+        ensures looks { Looks (H.alone shelf.old) (H.seen shelf.old) (H.seen shelf.new) }
+        ensures reply { self.new.reply ≡ refused_text (length (H.seen shelf.new)) number line }
+        ensures own { H.own shelf.new ≡ H.own shelf.old }
+        ensures alone { H.alone shelf.new ≡ H.alone shelf.old }
+        ensures intake { self.new.intake ≡ self.old.intake }
+    {
+        let version = shelf.look();
+        self.refuse(version, number, line);
+    }
+
+    /// Looks at the shelf, and makes the refusal of a text. Want of memory tells no line.
+    fn refuse_text<H: Shelf>(&mut self, shelf: &mut H, fault: TextFault)
+        ensures looks { Looks (H.alone shelf.old) (H.seen shelf.old) (H.seen shelf.new) }
+        ensures reply { IsTextRefusal (length (H.seen shelf.new)) fault self.new.reply }
+        ensures lost { fault.kind ≡ TextKind.Memory
+            → self.new.reply ≡ refused_text (length (H.seen shelf.new)) 90 None }
+        ensures own { H.own shelf.new ≡ H.own shelf.old }
+        ensures alone { H.alone shelf.new ≡ H.alone shelf.old }
+        ensures intake { self.new.intake ≡ self.old.intake }
+    {
+        if matches!(fault.kind, TextKind::Memory) {
+            self.refuse_load(shelf, OUT_OF_MEMORY, None);
+        } else {
+            self.refuse_load(shelf, fault.kind.number(), Some(fault.line));
+        }
+    }
+
+    /// Takes a line, without its line feed; of a line of more than 512 bytes the first 513 suffice.
+    /// A reply that it asks for is in `reply` afterwards. Memory is taken for the lines of a text and for
+    /// its record alone.
+    pub fn take_line<H: Shelf>(&mut self, alloc: Global, shelf: &mut H, line: &[u8]) -> Taken
+        requires few { lines_in self.old.intake < 2 ^ 31 }
+        ensures taken { (open_text : Option (List (List ℕ))) → Holds self.old.intake open_text
+            → LineTaken (H.alone shelf.old) (H.seen shelf.old) (H.own shelf.old) (H.seen shelf.new) (H.own shelf.new)
+            open_text self.new.intake line.now self.new.reply result }
+        ensures lines { lines_in self.new.intake ≤ lines_in self.old.intake + 1 }
+        ensures alone { H.alone shelf.new ≡ H.alone shelf.old }
+    {
+        match mem::replace(&mut self.intake, Intake::Between) {
+            Intake::Between => self.take_request(alloc, shelf, line),
+            Intake::Text(reader) => self.take_text(alloc, shelf, reader, line),
+            Intake::Lost => self.take_lost(shelf, line),
+        }
+    }
+
+    /// Takes a line between two items: it looks at the shelf once, and answers from the last record.
+    fn take_request<H: Shelf>(&mut self, alloc: Global, shelf: &mut H, line: &[u8]) -> Taken
+        requires between { Holds self.old.intake None }
+        ensures taken { LineTaken (H.alone shelf.old) (H.seen shelf.old) (H.own shelf.old) (H.seen shelf.new)
+            (H.own shelf.new) None self.new.intake line.now self.new.reply result }
+        ensures no_line { lines_in self.new.intake ≡ 0 }
+        ensures alone { H.alone shelf.new ≡ H.alone shelf.old }
+    {
+        let version = shelf.look();
+        let seen = seen_record(shelf, version);
+        match parse_request(line, sheet_of(seen)) {
+            Ok(Request::Nothing) => Taken::Silent,
+            Ok(Request::Load) => {
+                self.intake = begin_text(alloc);
+                Taken::Silent
+            }
+            Ok(Request::Cut(a, b)) => {
+                self.cut(version, seen, a, b);
+                Taken::Reply
+            }
+            Ok(Request::Net) => {
+                self.tell_network(version, seen);
+                Taken::Reply
+            }
+            Ok(Request::Bye) => {
+                bye_reply(&mut self.reply, version);
+                Taken::Bye
+            }
+            Err(fault) => {
+                self.refuse(version, fault.number(), None);
+                Taken::Reply
+            }
+        }
+    }
+
+    /// Makes the reply to a CUT of two routers of a record.
+    fn cut(&mut self, version: u32, seen: Option<&Record>, a: u32, b: u32)
+        requires ends { IsOf (sheet_in (option_copied seen)) (Request.Cut a b) }
+        ensures reply { RepliesTo (option_copied seen.entry) version (Ok (Request.Cut a b)) self.new.reply }
+        ensures intake { self.new.intake ≡ self.old.intake }
+    {
+        let Some(record) = seen else {
+            unreachable!();
+        };
+        answer_cut(&mut self.desk, &mut self.reply, version, record, a, b);
+    }
+
+    /// Makes the reply that tells the network of a record.
+    fn tell_network(&mut self, version: u32, seen: Option<&Record>)
+        requires of { IsOf (sheet_in (option_copied seen)) Request.Net }
+        ensures reply { RepliesTo (option_copied seen.entry) version (Ok Request.Net) self.new.reply }
+        ensures intake { self.new.intake ≡ self.old.intake }
+    {
+        let Some(record) = seen else {
+            unreachable!();
+        };
+        net_reply(&mut self.reply, version, record.sheet());
+    }
+
+    /// Takes a line of a text that is read.
+    fn take_text<H: Shelf>(
+        &mut self,
+        alloc: Global,
+        shelf: &mut H,
+        mut reader: Reader,
+        line: &[u8],
+    ) -> Taken
+        requires open { IsFalse reader.ended }
+        requires few { reader.progress.lines < 2 ^ 31 }
+        ensures taken { (text : List (List ℕ)) → Holds (Intake.Text reader) (Some text)
+            → LineTaken (H.alone shelf.old) (H.seen shelf.old) (H.own shelf.old) (H.seen shelf.new) (H.own shelf.new)
+            (Some text) self.new.intake line.now self.new.reply result }
+        ensures lines { lines_in self.new.intake ≤ reader.progress.lines + 1 }
+        ensures alone { H.alone shelf.new ≡ H.alone shelf.old }
+    {
+        match reader.line(line) {
+            Fed::More => {
+                self.intake = Intake::Text(reader);
+                Taken::Silent
+            }
+            Fed::Ended => {
+                self.end_text(alloc, shelf, reader);
+                self.intake = Intake::Between;
+                Taken::Reply
+            }
+        }
+    }
+
+    /// Takes a line of a text that is passed over.
+    fn take_lost<H: Shelf>(&mut self, shelf: &mut H, line: &[u8]) -> Taken
+        ensures taken { (text : List (List ℕ))
+            → LineTaken (H.alone shelf.old) (H.seen shelf.old) (H.own shelf.old) (H.seen shelf.new) (H.own shelf.new)
+            (Some text) self.new.intake line.now self.new.reply result }
+        ensures no_line { lines_in self.new.intake ≡ 0 }
+        ensures alone { H.alone shelf.new ≡ H.alone shelf.old }
+    {
+        if is_end(line) {
+            self.refuse_load(shelf, OUT_OF_MEMORY, None);
+            self.intake = Intake::Between;
+            Taken::Reply
+        } else {
+            self.intake = Intake::Lost;
+            Taken::Silent
+        }
+    }
+
+    /// Answers a text whose END came.
+    fn end_text<H: Shelf>(&mut self, alloc: Global, shelf: &mut H, reader: Reader)
+        requires few { reader.progress.lines < 2 ^ 31 }
+        ensures loads { (text : List (List ℕ)) → HasRead reader.progress text
+            → Loads (H.alone shelf.old) (H.seen shelf.old) (H.own shelf.old) (verdict_of text reader.ended)
+            self.new.reply (H.seen shelf.new) (H.own shelf.new) }
+        ensures alone { H.alone shelf.new ≡ H.alone shelf.old }
+    {
+        match reader.close() {
+            Ok(sheet) => self.publish(alloc, shelf, sheet),
+            Err(fault) => self.refuse_text(shelf, fault),
+        }
+    }
+
+    /// Refuses a text that the end of the input cuts off.
+    fn refuse_unfinished<H: Shelf>(&mut self, shelf: &mut H, reader: Reader)
+        requires open { IsFalse reader.ended }
+        requires few { reader.progress.lines < 2 ^ 31 }
+        ensures owed { (text : List (List ℕ)) → HasRead reader.progress text
+            → Closing (H.alone shelf.old) (H.seen shelf.old) (H.own shelf.old) (Some text) self.new.reply
+            (H.seen shelf.new) (H.own shelf.new) }
+        ensures alone { H.alone shelf.new ≡ H.alone shelf.old }
+    {
+        match reader.close() {
+            Ok(_) => unreachable!(),
+            Err(fault) => self.refuse_text(shelf, fault),
+        }
+    }
+
+    /// Builds the tree of a sheet's network, and publishes both as a record, where there is room and
+    /// memory for it.
+    fn publish<H: Shelf>(&mut self, alloc: Global, shelf: &mut H, sheet: Sheet)
+        ensures loads { Loads (H.alone shelf.old) (H.seen shelf.old) (H.own shelf.old) (Ok sheet) self.new.reply
+            (H.seen shelf.new) (H.own shelf.new) }
+        ensures alone { H.alone shelf.new ≡ H.alone shelf.old }
+    {
+        match self.make_record(alloc, sheet) {
+            Ok(record) => self.publish_record(shelf, record),
+            Err(NoMemory) => self.refuse_load(shelf, OUT_OF_MEMORY, None),
+        }
+    }
+
+    /// The record of a sheet, with the tree of its network.
+    fn make_record(&mut self, alloc: Global, sheet: Sheet) -> Result<Arc<Record>, NoMemory>
+        ensures sheet { IfOk result (λ made. (arc_value made).sheet ≡ sheet) }
+    {
+        let tree = build_tree(alloc, &mut self.desk, sheet.net())?;
+        Record::make(alloc, sheet, tree)
+    }
+
+    /// Publishes a record, and makes the reply by its version.
+    fn publish_record<H: Shelf>(&mut self, shelf: &mut H, new: Arc<Record>)
+        ensures loads { Loads (H.alone shelf.old) (H.seen shelf.old) (H.own shelf.old) (Ok (arc_value new).sheet)
+            self.new.reply (H.seen shelf.new) (H.own shelf.new) }
+        ensures alone { H.alone shelf.new ≡ H.alone shelf.old }
+    {
+        match shelf.publish(new) {
+            Ok(version) => self.tell_loaded(shelf, version),
+            Err(PublishFault::Full) => self.refuse(MOST_RECORDS, SHELF_FULL, None),
+            Err(PublishFault::NoMemory) => self.refuse_load(shelf, OUT_OF_MEMORY, None),
+        }
+    }
+
+    /// Makes the reply by the version of a record that was published.
+    fn tell_loaded<H: Shelf>(&mut self, shelf: &H, version: u32)
+        requires first { 0 < version }
+        requires last { version ≤ length (H.seen shelf.now) }
+        ensures reply { (made : RecordView) → record_at (H.seen shelf.now) version ≡ Some made
+            → self.new.reply ≡ loaded_text version made.sheet.net }
+        ensures intake { self.new.intake ≡ self.old.intake }
+    {
+        loaded_reply(
+            &mut self.reply,
+            version,
+            shelf.record_at(version).sheet().net(),
+        );
+    }
+
+    /// Makes the reply that is owed where the input ends, and says whether one is.
+    pub fn close_input<H: Shelf>(&mut self, shelf: &mut H) -> bool
+        requires few { lines_in self.old.intake < 2 ^ 31 }
+        ensures owed { (open_text : Option (List (List ℕ))) → Holds self.old.intake open_text
+            → Closing (H.alone shelf.old) (H.seen shelf.old) (H.own shelf.old) open_text
+            (if result then self.new.reply else []) (H.seen shelf.new) (H.own shelf.new) }
+        ensures alone { H.alone shelf.new ≡ H.alone shelf.old }
+    {
+        match mem::replace(&mut self.intake, Intake::Between) {
+            Intake::Between => false,
+            Intake::Text(reader) => {
+                self.refuse_unfinished(shelf, reader);
+                true
+            }
+            Intake::Lost => {
+                self.refuse_load(shelf, OUT_OF_MEMORY, None);
+                true
+            }
+        }
+    }
+}

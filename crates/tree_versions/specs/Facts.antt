@@ -1,0 +1,21 @@
+-- That records are finished is a fact: it has one proof at most.
+use Rattle.std.proofs.Common.{ℕ, List, [], ◌∷◌, ◌++◌}
+use Rattle.std.proofs.Props.{props}
+use Rattle.cut_model.specs.Net.{Net}
+use Rattle.tree_state.specs.History.{IsLegalAfter, IsComplete}
+use Rattle.tree_state.specs.declared.entry.Entry.{Entry}
+use Rattle.tree_versions.specs.Records.{RecordView, AreFinished}
+
+-- That a history is legal is a fact.
+legal_is_fact : (net : Net) (before history : List Entry) → IsProp (IsLegalAfter net before history)
+unfolding IsLegalAfter
+legal_is_fact net before [] = Prim.hlevel props
+legal_is_fact net before (entry ∷ rest) = Prim.hlevel (props, legal_is_fact net (before ++ entry ∷ []) rest)
+
+-- That a history is complete is a fact.
+complete_is_fact : (net : Net) (history : List Entry) → IsProp (IsComplete net history)
+complete_is_fact net history = Prim.hlevel (props, legal_is_fact net [] history)
+
+-- That records are finished is a fact.
+pub finished_is_fact : (records : List RecordView) → IsProp (AreFinished records)
+finished_is_fact records = Prim.hlevel (props, complete_is_fact)

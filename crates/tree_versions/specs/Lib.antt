@@ -1,0 +1,4 @@
+pub mod Records
+pub mod Shelves
+pub mod Solo
+pub mod Facts

@@ -1,0 +1,62 @@
+//! What a shelf of records is.
+ghost use Rattle.std.specs.Prelude.{◌≡◌, ℕ, ◌<◌, ◌≤◌, List, Bool, Some, length};
+ghost use Rattle.std.specs.Arc.{arc_value};
+ghost use Rattle.tree_versions.specs.Records.{AreFinished, RecordView, record_at as at_version};
+ghost use Rattle.tree_versions.specs.Shelves.{Looks, Publishes};
+
+use crate::Record;
+use std::sync::Arc;
+use thiserror::Error;
+
+/// Why a record wasn't published. It is dropped then.
+#[derive(Clone, Copy, PartialEq, Eq, Debug, Error)]
+pub enum PublishFault {
+    /// As many records are held as can be, 256.
+    #[error("no room for another record")]
+    Full,
+    /// Memory was wanted.
+    #[error("out of memory")]
+    NoMemory,
+}
+
+/// One growing list of at most 256 records, of which its holder has seen a front. Records are counted from
+/// 1, and the number of a record is its version.
+pub trait Shelf {
+    /// The records that the holder has seen.
+    ghost seen: { Self → List RecordView };
+
+    /// How many records were published through this shelf.
+    ghost own: { Self → ℕ };
+
+    /// Nobody else publishes on the list.
+    ghost alone: { Self → Bool };
+
+    /// At most 256 records are seen.
+    ghost few: { (shelf : Self) → length (seen shelf) ≤ 256 };
+
+    /// Each record that is seen holds a complete run over its own network.
+    ghost runs: { (shelf : Self) → AreFinished (seen shelf) };
+
+    /// Sees what others have published, and tells how many records are seen.
+    fn look(&mut self) -> u32
+        ensures seen { Looks (alone self.old) (seen self.old) (seen self.new) }
+        ensures count { result ≡ length (seen self.new) }
+        ensures own { own self.new ≡ own self.old }
+        ensures alone { alone self.new ≡ alone self.old };
+
+    /// The record of a version that was seen. It takes no memory and waits for nobody.
+    fn record_at(&self, version: u32) -> &Record
+        requires first { 0 < version }
+        requires last { version ≤ length (seen self.now) }
+        ensures { Some result.now ≡ at_version (seen self.now) version };
+
+    /// Publishes a record, and tells its version.
+    ///
+    /// # Errors
+    /// [`PublishFault::Full`] exactly where 256 records are held, and [`PublishFault::NoMemory`] where memory
+    /// was wanted. Nothing was published then.
+    fn publish(&mut self, new: Arc<Record>) -> Result<u32, PublishFault>
+        ensures published { Publishes (alone self.old) (seen self.old) (seen self.new) (arc_value new)
+            (own self.old) (own self.new) result }
+        ensures alone { alone self.new ≡ alone self.old };
+}
