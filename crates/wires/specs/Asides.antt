@@ -1,6 +1,6 @@
 -- The parts of what an object is beside: they are the same where the whole is.
 use Rattle.std.proofs.Common.{◌≡◌, ap}
-use Rattle.wires.specs.Beside.{Beside, Half, other_of, rest_of}
+use Rattle.wires.specs.Beside.{Beside, other_of, rest_of}
 
 -- the bytes of the other half
 pub bytes_of : (x y : Beside) → x ≡ y → (other_of x).bytes ≡ (other_of y).bytes

@@ -2,11 +2,13 @@
 //!
 //! A layer above reads from a [`Source`] and writes to a [`Sink`]. It is promised that every failure it
 //! is told of has a cause: the count of faults of that very object rose in that very call.
+//! A [`Peer`] is both, and its reads and puts leave each other alone.
 #![tactic(auto)]
 
 mod counting;
 mod faults;
 mod memory;
+mod memory_peer;
 mod peers;
 mod pieces;
 mod sinks;
@@ -19,7 +21,8 @@ mod tests;
 pub use counting::CountingSink;
 pub use faults::Failed;
 pub use memory::{MemorySink, MemorySource};
-pub use peers::{MemoryPeer, Pair, Peer};
+pub use memory_peer::MemoryPeer;
+pub use peers::{Pair, Peer};
 pub use pieces::put_pieces;
 pub use sinks::Sink;
 pub use sources::Source;

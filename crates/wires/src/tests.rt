@@ -1,6 +1,6 @@
 //! What no clause says: that the calls which take memory succeed, and what std's readers and writers do.
 
-ghost use Rattle.std.specs.Prelude.{◌≡◌, IfOk, Ok};
+ghost use Rattle.std.specs.Prelude.{◌≡◌, IfOk};
 ghost use Rattle.std.specs.Io.KnownBytes.{Appends, ReadConsumes};
 ghost use Rattle.wires.specs.Bytes.{PutAppends};
 
