@@ -1,5 +1,5 @@
 -- A session over a shelf that nobody else has is over its records and no others.
-use Rattle.std.proofs.Common.{◌≡◌, ℕ, List, [], length, Bool, true, refl, subst}
+use Rattle.std.proofs.Common.{ℕ, List, [], length, Bool, true, refl, subst}
 use Rattle.std.specs.declared.option.Option.{Option}
 use Rattle.planner_server.specs.Runs.{RunEndsAs}
 use Rattle.session.specs.Answers.{Alone, Answers}

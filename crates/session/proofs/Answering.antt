@@ -1,5 +1,5 @@
 -- How replies to stretches of items join, and stay right while the list of records grows.
-use Rattle.std.proofs.Common.{◌≡◌, ℕ, zero, suc, ◌+◌, ◌<◌, ◌≤◌, List, [], ◌∷◌, ◌++◌, Bool, true, length, None, Some}
+use Rattle.std.proofs.Common.{◌≡◌, ℕ, zero, suc, ◌+◌, ◌<◌, ◌≤◌, List, [], ◌∷◌, ◌++◌, Bool, length}
 use Rattle.std.proofs.Common.{
   Result,
   Ok,
@@ -21,9 +21,8 @@ use Rattle.std.specs.Prelude.{slice_get}
 use Rattle.network_text.specs.Sheets.{SheetView}
 use Rattle.network_text.specs.Texts.{verdict_of}
 use Rattle.network_text.specs.declared.fault.TextFault.{TextFault}
-use Rattle.query_lang.specs.Replies.{refused_text}
-use Rattle.session.specs.Answers.{Answers, IsLoaded, IsRefusedFull, IsReply, IsTold, LoadStep, Stays, Step}
-use Rattle.session.specs.Modes.{Gives, IsReached, IsServed, Leads, Reaches}
+use Rattle.session.specs.Answers.{Answers, IsReply, IsTold, LoadStep, Stays, Step}
+use Rattle.session.specs.Modes.{Gives, IsReached, IsServed, Leads}
 use Rattle.text_forms.specs.Items.{Item, Ask, Load, Bye}
 use Rattle.tree_versions.specs.Records.{RecordView, Grows, record_at}
 use Rattle.tree_versions.specs.Shelves.{Looks}

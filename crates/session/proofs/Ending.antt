@@ -1,6 +1,6 @@
 -- What one line, or the end of the input, does to a session.
 use Rattle.std.proofs.Common.{◌≡◌, ℕ, ◌<◌, ◌≤◌, List, [], ◌∷◌, ◌++◌, length, take, None, Some, Bool, true, false}
-use Rattle.std.proofs.Common.{refl, sym, ap, ◌∙◌, arith, append_assoc, subst, inl, inr, length-append}
+use Rattle.std.proofs.Common.{sym, ap, ◌∙◌, arith, append_assoc, subst, inl, inr, length-append}
 use Rattle.std.proofs.lemmas.List.{append-nil}
 use Rattle.std.proofs.KnownBytes.{Appends-trans, Consumes-trans}
 use Rattle.std.specs.declared.option.Option.{Option}
@@ -8,7 +8,7 @@ use Rattle.std.specs.Io.KnownBytes.{Consumes, Appends, prepend_known}
 use Rattle.line_reader.specs.Held.{Held, ahead, IsOpen}
 use Rattle.line_reader.specs.Ends.{IsOver}
 use Rattle.line_reader.specs.Passing.{Goes, Passes}
-use Rattle.session.specs.Modes.{next_text, gives, Gives, IsQuiet, IsByeLine, IsServed, Closing}
+use Rattle.session.specs.Modes.{next_text, gives, Gives, IsQuiet, IsByeLine, IsServed}
 use Rattle.session.specs.Sessions.{SoFar, Ends, Breaks, IsComplete, EndsWhole}
 use Rattle.session.proofs.Answering.{IsServed-on, Answers-grow, Gives-join, Grows-trans}
 use Rattle.session.proofs.Serving.{goes_on, line_items, last_items, end_items, stops_items, bye_items}

@@ -1,5 +1,5 @@
 -- The definition of a session's answers on small sessions.
-use Rattle.std.proofs.Common.{◌≡◌, ℕ, List, [], ◌∷◌, Ok, Err, true, false, refl, inl, codes, arith}
+use Rattle.std.proofs.Common.{◌≡◌, List, [], ◌∷◌, Ok, Err, true, false, refl, inl, codes, arith}
 use Rattle.std.specs.Fmt.{digits}
 use Rattle.cut_model.specs.Cuts.{IsLeastCut, set_of, cut_value}
 use Rattle.cut_model.specs.Net.{Net}

@@ -10,7 +10,7 @@ use Rattle.query_lang.specs.declared.request.Request.TheVariants.{Nothing, Load,
 use Rattle.query_lang.specs.declared.request.RequestFault.{RequestFault}
 use Rattle.query_lang.proofs.RequestKinds.{IsKind, request_kind}
 use Rattle.session.specs.Answers.{IsReply, RepliesTo, Step, sheet_in}
-use Rattle.session.specs.Modes.{next_text, gives, Gives, IsByeLine}
+use Rattle.session.specs.Modes.{next_text, gives, Gives}
 use Rattle.session.specs.Taking.{Holds, IsTaken, IsByeTaken}
 use Rattle.session.specs.declared.intake.Intake.{Intake}
 use Rattle.session.proofs.Answering.{Gives-none, Gives-one, look_leads}

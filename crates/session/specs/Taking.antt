@@ -1,5 +1,5 @@
 -- What a line does to the state of a session.
-use Rattle.std.specs.Prelude.{◌≡◌, ◌⊎◌, ℕ, List, [], ◌∷◌, length, Bool, false, None, Some}
+use Rattle.std.specs.Prelude.{◌≡◌, ◌⊎◌, ℕ, List, [], ◌∷◌, Bool, false, None, Some}
 use Rattle.std.specs.declared.option.Option.{Option}
 use Rattle.network_text.specs.Readings.{IsWant}
 use Rattle.network_text.specs.Texts.{Progress, progress_of}
@@ -8,7 +8,7 @@ use Rattle.session.specs.declared.intake.Intake.{Intake}
 use Rattle.session.specs.declared.intake.Intake.TheVariants.{Between, Text, Lost}
 use Rattle.session.specs.declared.intake.Taken.{Taken}
 use Rattle.session.specs.declared.intake.Taken.TheVariants.{Silent, Reply, Bye}
-use Rattle.text_forms.specs.Items.{Item, Bye as ByeItem}
+use Rattle.text_forms.specs.Items.{Bye as ByeItem}
 use Rattle.tree_versions.specs.Records.{RecordView}
 
 -- these lines of a text were read, unless memory was wanted for one

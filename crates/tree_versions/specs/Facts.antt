@@ -1,5 +1,5 @@
 -- That records are finished is a fact: it has one proof at most.
-use Rattle.std.proofs.Common.{ℕ, List, [], ◌∷◌, ◌++◌}
+use Rattle.std.proofs.Common.{List, [], ◌∷◌, ◌++◌}
 use Rattle.std.proofs.Props.{props}
 use Rattle.cut_model.specs.Net.{Net}
 use Rattle.tree_state.specs.History.{IsLegalAfter, IsComplete}

@@ -1,5 +1,5 @@
 -- What the calls of a shelf do to the list of records that its holder has seen.
-use Rattle.std.specs.Prelude.{◌≡◌, ℕ, ◌+◌, ◌<◌, ◌≤◌, List, [], ◌∷◌, ◌++◌, Bool, true, length, Some, Result, Ok, Err}
+use Rattle.std.specs.Prelude.{◌≡◌, ℕ, ◌+◌, ◌<◌, List, [], ◌∷◌, ◌++◌, Bool, true, length, Some, Result, Ok, Err}
 use Rattle.tree_versions.specs.Records.{RecordView, Grows, record_at}
 use Rattle.tree_versions.specs.declared.shelf.PublishFault.{PublishFault}
 use Rattle.tree_versions.specs.declared.shelf.PublishFault.TheVariants.{Full, NoMemory}

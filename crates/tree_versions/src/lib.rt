@@ -7,8 +7,6 @@
 mod record;
 mod shelf;
 mod solo;
-#[cfg(test)]
-mod tests;
 
 pub use record::Record;
 pub use shelf::{PublishFault, Shelf};

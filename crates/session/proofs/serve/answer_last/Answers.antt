@@ -1,4 +1,3 @@
-use Rattle.std.proofs.Common.{ap}
 use Rattle.session.proofs.Turning.{last_bye_answered, last_begun, last_closed}
 use Rattle.session.proofs.serve.answer_last.Goals as goal
 

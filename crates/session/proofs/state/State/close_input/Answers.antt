@@ -1,4 +1,4 @@
-use Rattle.std.proofs.Common.{ℕ, List, Some, false, sym, subst}
+use Rattle.std.proofs.Common.{ℕ, List, false, sym, subst}
 use Rattle.std.specs.declared.option.Option.{Option}
 use Rattle.network_text.specs.Texts.{verdict_of}
 use Rattle.session.specs.Modes.{Closing}
