@@ -103,7 +103,7 @@ fn serve_both<S: Source, K: Sink>(
 /// of its bytes is left open.
 ///
 /// `NoMemory` comes only before the first read. A run takes at most 2^30 bytes from its source, keeps
-/// at most 256 records of up to about 200 kB each, and some 1,200 kB beside.
+/// at most 256 records of up to about 400 kB each, and some 1,200 kB beside.
 pub fn run<S: Source, K: Sink>(
     alloc: Global,
     words: &[String],
