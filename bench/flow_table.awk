@@ -33,43 +33,39 @@ function print_means(title, set) {
     }
 }
 
-NR == 1 {
-    with_lemon = NF == 8
-    printf "%-18s %5s %8s %9s %8s %8s", "ms", "cuts", "session", "least_cut", "held", "C++"
+function print_row(network, cuts, session, call, held, cpp, flow, cut, held_to_cpp, comparing, flow_to_session) {
+    printf "%-18s %5s %8s %9s %8s %8s", network, cuts, session, call, held, cpp
     if (with_lemon) {
-        printf " %8s %8s", "LEMON's", "LEMON's"
+        printf " %8s %8s", flow, cut
     }
-    printf " %6s %9s", "held/", "comparing"
+    printf " %6s %9s", held_to_cpp, comparing
     if (with_lemon) {
-        printf " %8s", "flow/"
-    }
-    printf "\n%-18s %5s %8s %9s %8s %8s", "", "", "", "", "", ""
-    if (with_lemon) {
-        printf " %8s %8s", "flow", "cut"
-    }
-    printf " %6s %9s", "C++", "us a cut"
-    if (with_lemon) {
-        printf " %8s", "session"
+        printf " %8s", flow_to_session
     }
     print ""
 }
 
+function hundredths(number) {
+    return sprintf("%.2f", number)
+}
+
+NR == 1 {
+    with_lemon = NF == 8
+    print_row("ms", "cuts", "session", "least_cut", "held", "C++", "LEMON's", "LEMON's", "held/", "comparing", "flow/")
+    print_row("", "", "", "", "", "", "flow", "cut", "C++", "us a cut", "session")
+}
+
 {
-    printf "%-18s %5d %8.2f %9.2f %8.2f %8.2f", $1, $2, $3, $4, $5, $6
+    print_row($1, $2, hundredths($3), hundredths($4), hundredths($5), hundredths($6), hundredths($7), hundredths($8),
+              hundredths($5 / $6), hundredths(($4 - $5) * 1000 / $2), hundredths($7 / $3))
     note_both("held", $5 / $6)
     note_both("comparing", $4 / $5)
     if (with_lemon) {
-        printf " %8.2f %8.2f", $7, $8
         note_both("session_flow", $7 / $3)
         note_both("session_cut", $8 / $3)
         note_both("call_flow", $7 / $4)
         note_both("call_cut", $8 / $4)
     }
-    printf " %6.2f %9.2f", $5 / $6, ($4 - $5) * 1000 / $2
-    if (with_lemon) {
-        printf " %8.2f", $7 / $3
-    }
-    print ""
 }
 
 END {

@@ -5,7 +5,5 @@
 #![tactic(auto)]
 
 mod completion;
-#[cfg(test)]
-mod tests;
 
 pub use completion::complete;

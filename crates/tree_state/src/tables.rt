@@ -10,7 +10,7 @@ ghost use Rattle.tree_state.specs.Words.{moved_by};
 use cut_model::{LeastCut, Side};
 
 /// What is above a router after a move: `s` where its bit is set and `t` was above it, and else what
-/// was. It compiles to no branch.
+/// was.
 #[inline]
 fn moved(word: u64, bit: usize, above: u32, s: u32, t: u32) -> u32
     requires { bit < 64 }

@@ -1,1 +1,0 @@
-//! Trees of small networks, worked by hand.
