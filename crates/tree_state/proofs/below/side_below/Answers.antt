@@ -1,6 +1,6 @@
 use Rattle.std.proofs.Common.{◌≡◌, ◌∙◌, ap}
 use Rattle.cut_model.specs.Net.{Net}
-use Rattle.tree_state.specs.Below.{IsMarked, IsDecidedFor}
+use Rattle.tree_state.specs.Below.{IsDecidedFor}
 use Rattle.tree_state.proofs.Decided.{marked_start, decided_start, decided_shows}
 use Rattle.tree_state.proofs.below.side_below.Goals as goal
 
