@@ -1,3 +1,5 @@
+pub mod Children
+pub mod Entries
 pub mod Examples
 pub mod Fits
 pub mod Lengths

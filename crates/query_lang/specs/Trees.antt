@@ -1,14 +1,13 @@
 -- The texts that tell a tree, and the run that made it.
 use Rattle.std.specs.Prelude.{ℕ, ◌-◌, List, [], ◌∷◌, ◌++◌, ◌&&◌, ◌==◌, not, filter, length, map, codes, decimal}
+use Rattle.std.specs.Prelude.{if◌then◌else◌}
 use Rattle.std.specs.List.{concat, range_with_len}
 use Rattle.cut_model.specs.Net.{Net}
 use Rattle.cut_model.specs.Cuts.{RouterSet}
 use Rattle.cut_model.specs.Terminals.{is_terminal, root_of, terminal_count}
 use Rattle.network_text.specs.Sheets.{SheetView}
 use Rattle.network_text.specs.Writing.{name_at}
-use Rattle.tree_state.specs.Growing.{GrowingView}
-use Rattle.tree_state.specs.History.{tables}
-use Rattle.tree_state.specs.Tables.{Table}
+use Rattle.tree_state.specs.Growing.{GrowingView, up_of, width_of}
 use Rattle.tree_state.specs.declared.entry.Entry.{Entry}
 use Rattle.query_lang.specs.Replies.{head_text}
 
@@ -27,9 +26,11 @@ children_of net = filter (is_child net) (range_with_len 0 net.routers)
 
 -- The line of the edge that leads up from a router, with its width.
 abbrev pub child_line : List (List ℕ) → GrowingView → ℕ → List ℕ
-child_line names tree child =
-    edge_line names child ((tables (root_of tree.net) tree.history).up child)
-    ((tables (root_of tree.net) tree.history).width child)
+child_line names tree child = edge_line names child (up_of tree child) (width_of tree child)
+
+-- That line where there is such an edge, and nothing for the root and for routers that are no terminals.
+abbrev pub child_piece : List (List ℕ) → GrowingView → ℕ → List ℕ
+child_piece names tree router = if is_child tree.net router then child_line names tree router else []
 
 -- The tree: for each terminal but the root, the router above it and the width of the edge between the two.
 unfoldable pub tree_text : ℕ → SheetView → GrowingView → List ℕ

@@ -1,13 +1,14 @@
 //! Replies, written to a sink. Each begins with the version of the network that it speaks of, 0
 //! where there is none, and ends with a line feed. No call takes memory.
 ghost use Rattle.std.specs.Prelude.{◌≡◌, ℕ, ◌<◌, List, [], Bool, length, map, slice_get, slice_index_or, false};
-ghost use Rattle.std.specs.Prelude.{IfSome, if◌then◌else◌};
+ghost use Rattle.std.specs.Prelude.{Some, ◌-◌};
 ghost use Rattle.std.specs.List.{concat};
+ghost use Rattle.cut_model.specs.Terminals.{terminal_count};
 ghost use Rattle.query_lang.specs.Replies.{bye_text, cut_head, cut_text, loaded_text, name_piece};
 ghost use Rattle.query_lang.specs.Replies.{head_text, line_piece, net_text, refusal_head, refused_text};
 ghost use Rattle.query_lang.specs.Replies.{sheet_lines, side_names};
 ghost use Rattle.query_lang.specs.Reports.{reply_text};
-ghost use Rattle.query_lang.specs.Trees.{children_of, child_line, commit_line, edge_line, is_child};
+ghost use Rattle.query_lang.specs.Trees.{children_of, child_line, child_piece, commit_line, edge_line};
 ghost use Rattle.query_lang.specs.Trees.{run_text, tree_text};
 ghost use Rattle.query_lang.specs.Requests.{IsReported};
 ghost use Rattle.wires.specs.Puts.{Puts};
@@ -16,7 +17,7 @@ use crate::Request;
 use cut_model::{Network, Side};
 use itoa::Buffer;
 use network_text::{Sheet, write_sheet};
-use tree_state::Finished;
+use tree_state::{Entry, Finished};
 use wires::{Failed, Sink, put_pieces};
 
 /// Writes the reply to an accepted network: its numbers of routers and links.
@@ -189,16 +190,12 @@ fn write_child<K: Sink>(
     requires same { finished.now.net ≡ sheet.now.net }
     requires within { router < sheet.now.net.routers }
     ensures puts { Puts K.written K.write_faults K.beside_sink K.takes sink.old sink.new result
-        (if is_child finished.now.net router then child_line sheet.now.names finished.now router else []) }
+        (child_piece sheet.now.names finished.now router) }
 {
-    if finished.net().is_terminal(router) && router != finished.root() {
-        write_edge(
-            sheet,
-            router,
-            finished.up(router),
-            finished.width(router),
-            sink,
-        )
+    let net = sheet.net();
+    if net.is_terminal(router) && router != net.root() {
+        let above = finished.up(router);
+        write_edge(sheet, router, above, finished.width(router), sink)
     } else {
         Ok(())
     }
@@ -210,10 +207,18 @@ fn write_children<K: Sink>(sheet: &Sheet, finished: &Finished, sink: &mut K) -> 
     ensures puts { Puts K.written K.write_faults K.beside_sink K.takes sink.old sink.new result
         (concat (map (child_line sheet.now.names finished.now) (children_of finished.now.net))) }
 {
-    for router in 0..finished.net().routers() {
+    for router in 0..sheet.net().routers() {
         write_child(sheet, finished, router, sink)?;
     }
     Ok(())
+}
+
+/// How many edges the tree has. Each commit made one.
+fn edge_count(finished: &Finished) -> u64
+    ensures edges { result ≡ terminal_count finished.now.net - 1 }
+    ensures commits { result ≡ length finished.now.history }
+{
+    u64::from(finished.commits())
 }
 
 /// Writes the tree, behind a first line that tells its number of edges.
@@ -228,25 +233,20 @@ fn write_tree<K: Sink>(
     ensures puts { Puts K.written K.write_faults K.beside_sink K.takes sink.old sink.new result
         (tree_text version sheet.now finished.now) }
 {
-    write_head(version, "TREE", u64::from(finished.commits()), sink)?;
+    write_head(version, "TREE", edge_count(finished), sink)?;
     write_children(sheet, finished, sink)
 }
 
-/// Writes the line of a commit.
-fn write_commit<K: Sink>(
-    sheet: &Sheet,
-    finished: &Finished,
-    place: u32,
-    sink: &mut K,
-) -> Result<(), Failed>
+/// The entry of the commit at a place. The sheet has names for its two routers.
+fn named_entry<'a>(sheet: &Sheet, finished: &'a Finished, place: u32) -> &'a Entry
     requires same { finished.now.net ≡ sheet.now.net }
     requires within { place < length finished.now.history }
-    ensures { IfSome (slice_get finished.now.history place) (λ entry.
-        Puts K.written K.write_faults K.beside_sink K.takes sink.old sink.new result
-        (commit_line sheet.now.names entry)) }
+    ensures value { slice_get finished.now.history place ≡ Some result.now }
+    ensures router { result.now.router < length sheet.now.names }
+    ensures neighbour { result.now.neighbour < length sheet.now.names }
 {
-    let entry = finished.entry(place);
-    write_edge(sheet, entry.router, entry.neighbour, entry.value, sink)
+    prove!(finished.net().routers() == sheet.net().routers());
+    finished.entry(place)
 }
 
 /// Writes the lines of all commits, the oldest first.
@@ -256,7 +256,8 @@ fn write_commits<K: Sink>(sheet: &Sheet, finished: &Finished, sink: &mut K) -> R
         (concat (map (commit_line sheet.now.names) finished.now.history)) }
 {
     for place in 0..finished.commits() {
-        write_commit(sheet, finished, place, sink)?;
+        let entry = named_entry(sheet, finished, place);
+        write_edge(sheet, entry.router, entry.neighbour, entry.value, sink)?;
     }
     Ok(())
 }
@@ -273,7 +274,7 @@ fn write_run<K: Sink>(
     ensures puts { Puts K.written K.write_faults K.beside_sink K.takes sink.old sink.new result
         (run_text version sheet.now finished.now) }
 {
-    write_head(version, "RUN", u64::from(finished.commits()), sink)?;
+    write_head(version, "RUN", edge_count(finished), sink)?;
     write_commits(sheet, finished, sink)
 }
 

@@ -1,7 +1,7 @@
 //! The replies, byte for byte as a client reads them, with ample memory.
 use crate::{
-    ReplyBuffer, Request, RequestFault, bye_reply, cut_reply, loaded_reply, net_reply,
-    parse_request, refusal_reply, write_bye, write_cut, write_head, write_loaded, write_refusal,
+    ReplyBuffer, Request, RequestFault, bye_reply, cut_reply, loaded_reply, parse_request,
+    refusal_reply, report_reply, write_bye, write_cut, write_head, write_loaded, write_refusal,
     write_reply,
 };
 use cut_model::{Link, Network, Side};
