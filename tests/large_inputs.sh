@@ -73,3 +73,38 @@ for version in 1 2; do
 done >"$room/wanted"
 try the_largest_network_is_told_back 0 "$room/wanted" "$room/stdin" plan
 try_in_pieces the_largest_network_is_told_back 0 "$room/wanted" "$room/stdin" plan
+
+# A chain of the most routers, with names of 32 bytes and eight links of the greatest capacity between
+# each two neighbours: its tree, and the run that made it, are the chain itself.
+awk 'BEGIN {
+    for (i = 1; i < 1024; i++)
+        printf "router-%04d.%020d router-%04d.%020d\n", i, i, i - 1, i - 1
+}' >"$room/chain"
+{
+    echo LOAD
+    awk '{ for (i = 0; i < 8; i++) print "link " $2 " " $1 " 1000000000000" }' "$room/chain"
+    printf '%s\n' END TREE RUN
+} >"$room/stdin"
+{
+    echo '@1 LOADED routers 1024 links 8184'
+    for word in TREE RUN; do
+        echo "@1 $word 1023"
+        sed 's/$/ 8000000000000/' "$room/chain"
+    done
+} >"$room/wanted"
+try the_longest_chain_is_its_own_tree 0 "$room/wanted" "$room/stdin" plan
+try_in_pieces the_longest_chain_is_its_own_tree 0 "$room/wanted" "$room/stdin" plan
+
+# The widest edge that there may be.
+{
+    printf '%s\n' LOAD
+    awk 'BEGIN { for (i = 0; i < 8192; i++) print "link a b 1000000000000" }'
+    printf '%s\n' END TREE RUN
+} >"$room/stdin"
+{
+    echo '@1 LOADED routers 2 links 8192'
+    for word in TREE RUN; do
+        printf '%s\n' "@1 $word 1" 'b a 8192000000000000'
+    done
+} >"$room/wanted"
+try the_widest_edge_of_a_tree 0 "$room/wanted" "$room/stdin" plan
