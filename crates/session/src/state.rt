@@ -26,16 +26,13 @@ use std::alloc::Global;
 use std::mem;
 use std::sync::Arc;
 use text_forms::is_end;
-use tree_versions::{PublishFault, Record, Shelf};
+use tree_versions::{MOST_RECORDS, PublishFault, Record, Shelf};
 
 /// The most routers that a network has.
 const MOST_ROUTERS: u32 = 1024;
 
 /// The most links that a network has.
 const MOST_LINKS: u32 = 8192;
-
-/// The most records that a shelf holds.
-const MOST_RECORDS: u32 = 256;
 
 /// The refusal of a network where the records are as many as can be kept.
 const SHELF_FULL: u32 = 20;
