@@ -3,14 +3,20 @@ use Rattle.std.proofs.Common.{◌≡◌, List, ℕ, [], ◌∷◌, ◌++◌, tru
 use Rattle.std.proofs.Common.{replicate}
 use Rattle.std.specs.Fmt.{digits}
 use Rattle.cut_model.specs.Net.{Net}
+use Rattle.cut_model.specs.Terminals.{is_terminal, number_in, root_of}
 use Rattle.network_text.specs.Sheets.{SheetView}
 use Rattle.network_text.specs.Writing.{sheet_text}
 use Rattle.query_lang.specs.declared.request.Request.{Request}
-use Rattle.query_lang.specs.declared.request.Request.TheVariants.{Nothing, Load, Cut, Bye}
+use Rattle.query_lang.specs.declared.request.Request.TheVariants.{Nothing, Load, Cut, Tree, Run, Bye}
 use Rattle.query_lang.specs.declared.request.Request.TheVariants as asks
 use Rattle.query_lang.specs.declared.request.RequestFault.{RequestFault}
-use Rattle.query_lang.specs.Replies.{bye_text, cut_text, head_text, loaded_text, net_text, refused_text, reply_text}
+use Rattle.query_lang.specs.Replies.{bye_text, cut_text, head_text, loaded_text, net_text, refused_text}
+use Rattle.query_lang.specs.Reports.{reply_text}
 use Rattle.query_lang.specs.Requests.{fault_number, request_of}
+use Rattle.query_lang.specs.Trees.{run_text, tree_text}
+use Rattle.tree_state.specs.Growing.{GrowingView}
+use Rattle.tree_state.specs.History.{tables}
+use Rattle.tree_state.specs.Tables.{up_after, width_after}
 
 -- Two routers, a and b, with a link of 5.
 abbrev pair : Net
@@ -50,6 +56,12 @@ cut = refl
 net : request_of (Some sheet) (codes "NET") ≡ Ok asks.Net
 net = refl
 
+tree : request_of (Some sheet) (codes "TREE") ≡ Ok Tree
+tree = refl
+
+run : request_of (Some sheet) (codes " RUN\t") ≡ Ok Run
+run = refl
+
 bye : request_of None (codes "BYE") ≡ Ok Bye
 bye = refl
 
@@ -86,6 +98,12 @@ three_names = refl
 net_with_further_word : before (codes "NET x") ≡ 3
 net_with_further_word = refl
 
+tree_with_further_word : before (codes "TREE x") ≡ 3
+tree_with_further_word = refl
+
+run_with_further_word : later (codes "RUN RUN") ≡ 3
+run_with_further_word = refl
+
 -- also for requests that need none.
 load_with_further_word : before (codes "LOAD x") ≡ 3
 load_with_further_word = refl
@@ -102,6 +120,12 @@ same_name_before = refl
 
 net_before : before (codes "NET") ≡ 6
 net_before = refl
+
+tree_before : before (codes "TREE") ≡ 6
+tree_before = refl
+
+run_before : before (codes "RUN") ≡ 6
+run_before = refl
 
 -- An unknown router counts before two equal names, whichever of the two it is.
 unknown_second : later (codes "CUT a z") ≡ 4
@@ -134,7 +158,60 @@ network : net_text 3 sheet ≡ codes "@3 NET 4\nrouter a\nrouter b\nlink a b 5\n
 unfolding digits net_text sheet_text
 network = refl
 
-asked_network : reply_text 3 sheet asks.Net ≡ net_text 3 sheet
+-- Six routers with nine links.
+six : SheetView
+six = record {
+  names = codes "r0" ∷ codes "r1" ∷ codes "r2" ∷ codes "r3" ∷ codes "r4" ∷ codes "r5" ∷ [];
+  net = record {
+    routers = 6;
+    links = record { a = 0; b = 1; cap = 1 } ∷ record { a = 0; b = 2; cap = 7 } ∷ record { a = 1; b = 2; cap = 1 }
+        ∷ record { a = 1; b = 3; cap = 3 } ∷ record { a = 1; b = 4; cap = 2 } ∷ record { a = 2; b = 4; cap = 4 }
+        ∷ record { a = 3; b = 4; cap = 1 } ∷ record { a = 3; b = 5; cap = 6 } ∷ record { a = 4; b = 5; cap = 2 } ∷ [];
+  };
+}
+
+-- Their tree, by commits in the order of their numbers, each with a least cut.
+grown : GrowingView
+grown = record {
+  net = six.net;
+  history = record { router = 1; neighbour = 0; value = 6; side = false ∷ true ∷ false ∷ true ∷ true ∷ true ∷ [] }
+      ∷ record { router = 2; neighbour = 0; value = 8; side = false ∷ true ∷ true ∷ true ∷ true ∷ true ∷ [] }
+      ∷ record { router = 3; neighbour = 1; value = 6; side = false ∷ false ∷ false ∷ true ∷ false ∷ true ∷ [] }
+      ∷ record { router = 4; neighbour = 1; value = 7; side = true ∷ false ∷ true ∷ false ∷ true ∷ false ∷ [] }
+      ∷ record { router = 5; neighbour = 3; value = 8; side = false ∷ false ∷ false ∷ false ∷ false ∷ true ∷ [] }
+      ∷ [];
+}
+
+-- The edges of the tree, in the order of their lower ends.
+whole_tree : tree_text 1 six grown ≡ codes "@1 TREE 5\nr1 r4 7\nr2 r0 8\nr3 r1 6\nr4 r2 6\nr5 r3 8\n"
+unfolding digits tree_text six grown tables up_after width_after is_terminal number_in root_of
+whole_tree = refl
+
+-- The commits name the routers above by then: the fourth one took the place of its neighbour.
+whole_run : run_text 1 six grown ≡ codes "@1 RUN 5\nr1 r0 6\nr2 r0 8\nr3 r1 6\nr4 r1 7\nr5 r3 8\n"
+unfolding digits run_text six grown
+whole_run = refl
+
+-- One router alone has no edge.
+lonely : SheetView
+lonely = record { names = codes "a" ∷ []; net = record { routers = 1; links = [] } }
+
+no_edge : tree_text 1 lonely (record { net = lonely.net; history = [] }) ≡ codes "@1 TREE 0\n"
+unfolding digits tree_text lonely tables is_terminal number_in root_of
+no_edge = refl
+
+no_commit : run_text 1 lonely (record { net = lonely.net; history = [] }) ≡ codes "@1 RUN 0\n"
+unfolding digits run_text lonely
+no_commit = refl
+
+-- Each request that tells of the whole is answered by its text.
+asked_tree : reply_text 3 six grown Tree ≡ tree_text 3 six grown
+asked_tree = refl
+
+asked_run : reply_text 3 six grown Run ≡ run_text 3 six grown
+asked_run = refl
+
+asked_network : reply_text 3 six grown asks.Net ≡ net_text 3 six
 asked_network = refl
 
 head : head_text 10 (codes "NET") 4 ≡ codes "@10 NET 4\n"

@@ -1,22 +1,32 @@
 -- How long replies are at most.
-use Rattle.std.proofs.Common.{ℕ, ◌+◌, ◌*◌, ◌/◌, ◌%◌, ◌≤◌, List, [], ◌∷◌, ◌++◌, All, Bool, true, false, IsTrue}
+use Rattle.std.proofs.Common.{◌≡◌, ℕ, ◌+◌, ◌-◌, ◌*◌, ◌/◌, ◌%◌, ◌≤◌, List, [], ◌∷◌, ◌++◌, All, Bool, true, false, IsTrue}
 use Rattle.std.proofs.Common.{nat_eq, if◌then◌else◌, zero, suc, length, arith, codes, decimal, length-append}
 use Rattle.std.proofs.Common.{None, Some, ap, inl, inr, map, slice_index_or}
 use Rattle.std.proofs.lemmas.Bool.{cases_lt}
 use Rattle.std.proofs.lemmas.Bool.Decides.{nat_tests}
 use Rattle.std.proofs.lemmas.Fmt.{length-decimal-le}
 use Rattle.std.proofs.lemmas.List.{get_or_past}
+use Rattle.std.proofs.lemmas.List.FromFn.{length-range_with_len}
+use Rattle.std.proofs.lemmas.List.Sums.{count_by-le-length, length-filter}
 use Rattle.std.proofs.lemmas.List.Elements.{All-head, All-tail}
 use Rattle.std.specs.Fmt.{digit_glyph, digits, digits_onto}
-use Rattle.std.specs.List.{concat}
+use Rattle.std.specs.List.{concat, range_with_len}
 use Rattle.std.specs.declared.option.Option.{Option}
 use Rattle.cut_model.specs.Net.{Net}
+use Rattle.cut_model.specs.Terminals.{terminal_count}
 use Rattle.cut_model.specs.declared.network.Link.{Link}
 use Rattle.network_text.specs.Sheets.{IsSheet, SheetView}
 use Rattle.network_text.specs.Writing.{link_text, name_at, router_text, sheet_text}
 use Rattle.text_forms.specs.Names.{is_name}
-use Rattle.query_lang.specs.Replies.{bye_text, cut_head, cut_text, line_piece, loaded_text, name_piece, net_text}
-use Rattle.query_lang.specs.Replies.{refused_text, sheet_lines, side_names}
+use Rattle.query_lang.specs.Replies.{bye_text, cut_head, cut_text, head_text, line_piece, loaded_text, name_piece}
+use Rattle.query_lang.specs.Replies.{net_text, refused_text, sheet_lines, side_names}
+use Rattle.query_lang.specs.Reports.{reply_text}
+use Rattle.query_lang.specs.Requests.{IsReported}
+use Rattle.query_lang.specs.Trees.{child_line, children_of, commit_line, edge_line, is_child, run_text, tree_text}
+use Rattle.query_lang.specs.declared.request.Request.{Request}
+use Rattle.query_lang.specs.declared.request.Request.TheVariants.{Nothing, Load, Cut, Tree, Run, Bye}
+use Rattle.query_lang.specs.declared.request.Request.TheVariants as asks
+use Rattle.tree_state.specs.Growing.{GrowingView}
 
 -- Digits put before others are at most as many as are asked for.
 length-digits_onto : (k base : ℕ) (upper : Bool) (n : ℕ) (behind : List ℕ)
@@ -156,3 +166,69 @@ unfolding net_text
 length-net_text version sheet is =
     let tail = length-sheet_text sheet is in
     simp length-append (omega (arith, digits_64 version, digits_64 (sheet_lines sheet), tail))
+
+-- The line of an edge: two names, and a number.
+length-edge_line : (names : List (List ℕ)) (child above number : ℕ) → All (λ name. IsTrue (is_name name)) names
+    → length (edge_line names child above number) ≤ 131
+length-edge_line names child above number named =
+    let first = length-name_at names child named in
+    let second = length-name_at names above named in
+    simp length-append (omega (arith, first, second, digits_64 number))
+
+-- The first line of a reply, with a word of at most eight letters.
+length-short_head : (version lines : ℕ) (word : List ℕ) → length word ≤ 8
+    → length (head_text version word lines) ≤ 140
+length-short_head version lines word short =
+    simp length-append (omega (arith, digits_64 version, digits_64 lines))
+
+-- A tree has at most as many edges as routers.
+length-children_of : (net : Net) → length (children_of net) ≤ net.routers
+length-children_of net =
+    let routers = range_with_len 0 net.routers in
+    omega (
+      arith,
+      length-filter (is_child net) routers,
+      count_by-le-length (is_child net) routers,
+      length-range_with_len 0 net.routers,
+    )
+
+-- The tree fits: a line of 131 bytes for each of 1,024 routers, and the first line.
+pub length-tree_text : (version : ℕ) (sheet : SheetView) (tree : GrowingView) → IsSheet sheet.names sheet.net
+    → tree.net ≡ sheet.net → length (tree_text version sheet tree) ≤ 740000
+unfolding tree_text
+length-tree_text version sheet tree is same =
+    let few : sheet.net.routers ≤ 1024 = is.limits.few_routers in
+    let children = children_of tree.net in
+    let routers : tree.net.routers ≡ sheet.net.routers = ap (λ (net : Net). net.routers) same in
+    let lines = length-texts (child_line sheet.names tree) 131 children
+    (λ k d within. length-edge_line sheet.names (slice_index_or children k d) _ _ is.named) in
+    let edges = terminal_count tree.net - 1 in
+    let head = length-short_head version edges (codes "TREE") (omega arith) in
+    let first_line = head_text version (codes "TREE") edges in
+    let whole = length-append first_line (concat (map (child_line sheet.names tree) children)) in
+    omega (arith, few, routers, lines, head, length-children_of tree.net, whole)
+
+-- The run fits: as many lines as the tree has.
+pub length-run_text : (version : ℕ) (sheet : SheetView) (tree : GrowingView) → IsSheet sheet.names sheet.net
+    → length tree.history ≤ 1024 → length (run_text version sheet tree) ≤ 740000
+unfolding run_text
+length-run_text version sheet tree is few =
+    let history = tree.history in
+    let lines = length-texts (commit_line sheet.names) 131 history
+    (λ k d within. length-edge_line sheet.names _ _ _ is.named) in
+    let head = length-short_head version (length history) (codes "RUN") (omega arith) in
+    let first_line = head_text version (codes "RUN") (length history) in
+    let whole = length-append first_line (concat (map (commit_line sheet.names) history)) in
+    omega (arith, few, lines, head, whole)
+
+-- Each report fits.
+pub length-reply_text : (version : ℕ) (sheet : SheetView) (tree : GrowingView) (request : Request)
+    → IsSheet sheet.names sheet.net → tree.net ≡ sheet.net → length tree.history ≤ 1024 → IsReported request
+    → length (reply_text version sheet tree request) ≤ 740000
+length-reply_text version sheet tree Nothing is same few reported = absurd reported
+length-reply_text version sheet tree Load is same few reported = absurd reported
+length-reply_text version sheet tree (Cut a b) is same few reported = absurd reported
+length-reply_text version sheet tree Tree is same few reported = length-tree_text version sheet tree is same
+length-reply_text version sheet tree Run is same few reported = length-run_text version sheet tree is few
+length-reply_text version sheet tree asks.Net is same few reported = length-net_text version sheet is
+length-reply_text version sheet tree Bye is same few reported = absurd reported

@@ -6,11 +6,12 @@ use Rattle.std.proofs.lemmas.Slice.Eq.{bytes_eq-Decides}
 use Rattle.std.specs.Str.{bytes_eq}
 use Rattle.std.specs.declared.option.Option.{Option}
 use Rattle.network_text.specs.Sheets.{SheetView, number_of}
-use Rattle.query_lang.specs.Requests.{cut_between, cut_named, cut_of, net_of, request_of, words_ask}
+use Rattle.query_lang.specs.Requests.{IsReported, cut_between, cut_named, cut_of, of_network, request_of}
+use Rattle.query_lang.specs.Requests.{words_ask}
 use Rattle.query_lang.specs.declared.request.Request.{Request}
-use Rattle.query_lang.specs.declared.request.Request.TheVariants.{Nothing, Load, Cut, Net, Bye}
+use Rattle.query_lang.specs.declared.request.Request.TheVariants.{Nothing, Load, Cut, Tree, Run, Net, Bye}
 use Rattle.query_lang.specs.declared.request.RequestFault.{RequestFault}
-use Rattle.query_lang.specs.declared.request.RequestFault.TheVariants.{UnknownWord, LineTooLong, WrongCount}
+use Rattle.query_lang.specs.declared.request.RequestFault.TheVariants.{UnknownWord, LineTooLong}
 use Rattle.query_lang.specs.declared.request.RequestFault.TheVariants.{SameRouter}
 use Rattle.text_forms.specs.Lines.{is_long}
 use Rattle.text_forms.specs.Words.{is_passed, is_load, is_bye, is_lone, is_remark, line_words}
@@ -30,15 +31,23 @@ IsOther (Ok Load) = ⊥
 IsOther (Ok Bye) = ⊥
 IsOther answer = Unit {0}
 
+-- A request whose reply is a report is answered from a record.
+pub other_of_reported : (request : Request) → IsReported request → IsOther (Ok request)
+other_of_reported Nothing reported = absurd reported
+other_of_reported Load reported = absurd reported
+other_of_reported (Cut a b) reported = tt
+other_of_reported Tree reported = tt
+other_of_reported Run reported = tt
+other_of_reported Net reported = tt
+other_of_reported Bye reported = absurd reported
+
 -- Such an answer is right for a line that is none of the three.
-kind_of_other : (answer : Result Request RequestFault) (load bye : Bool) → IsOther answer → load ≡ false → bye ≡ false
-    → IsKind answer false load bye
+pub kind_of_other : (answer : Result Request RequestFault) (load bye : Bool) → IsOther answer → load ≡ false
+    → bye ≡ false → IsKind answer false load bye
 kind_of_other (Ok Nothing) load bye other no_load no_bye = absurd other
 kind_of_other (Ok Load) load bye other no_load no_bye = absurd other
 kind_of_other (Ok Bye) load bye other no_load no_bye = absurd other
-kind_of_other (Ok (Cut a b)) load bye other no_load no_bye = (refl, no_load, no_bye)
-kind_of_other (Ok Net) load bye other no_load no_bye = (refl, no_load, no_bye)
-kind_of_other (Err fault) load bye other no_load no_bye = (refl, no_load, no_bye)
+kind_of_other answer load bye other no_load no_bye = (refl, no_load, no_bye)
 
 -- Two routers, known or not, give a cut or a fault.
 other_between : (first second : Option ℕ) → IsOther (cut_between first second)
@@ -62,59 +71,63 @@ other_cut sheet (first ∷ []) = tt
 other_cut sheet (first ∷ second ∷ []) = other_named sheet first second
 other_cut sheet (first ∷ second ∷ third ∷ words) = tt
 
--- Whatever stands behind `NET` gives the network or a fault.
-other_net : (sheet : Option SheetView) (words : List (List ℕ)) → IsOther (net_of sheet words)
-other_net sheet (word ∷ words) = tt
-other_net None [] = tt
-other_net (Some sheet) [] = tt
+-- A word that asks for the network gives what it asks or a fault, whatever stands behind it.
+other_of_network : (request : Request) (sheet : Option SheetView) (words : List (List ℕ)) → IsOther (Ok request)
+    → IsOther (of_network request sheet words)
+other_of_network request sheet (word ∷ words) other = tt
+other_of_network request None [] other = tt
+other_of_network request (Some sheet) [] other = other
 
 -- A word that is the one isn't the other.
 not_both : (word one other : List ℕ) → bytes_eq one other ≡ false → bytes_eq word one ≡ true
     → bytes_eq word other ≡ false
 not_both word one other differ is = ap (λ text. bytes_eq text other) ((bytes_eq-Decides word one).0 is) ∙ differ
 
+-- The word that begins a text does so alone, and else the words behind it in the order of the tests tell.
+kind_load : (load : Bool) (rest : Result Request RequestFault) (bye : Bool) → IsKind rest false false bye
+    → IsKind (if load then Ok Load else rest) false load bye
+kind_load true rest bye kind = (refl, refl)
+kind_load false rest bye kind = kind
+
+-- A word that isn't the one that ends the session asks something of a record, or else the later tests tell.
+kind_past : (is : Bool) (answer rest : Result Request RequestFault) (bye : Bool) → (is ≡ true → bye ≡ false)
+    → IsOther answer → IsKind rest false false bye → IsKind (if is then answer else rest) false false bye
+kind_past true answer rest bye no_bye other kind = kind_of_other answer false bye other refl (no_bye refl)
+kind_past false answer rest bye no_bye other kind = kind
+
+-- The last test is for the word that ends the session.
+kind_bye : (bye : Bool) → IsKind (if bye then Ok Bye else Err UnknownWord) false false bye
+kind_bye true = (refl, refl, refl)
+kind_bye false = (refl, refl, refl)
+
 -- One word alone begins a text, or ends the session, or does neither.
 kind_of_one : (sheet : Option SheetView) (word : List ℕ)
     → IsKind (words_ask sheet (word ∷ [])) false (bytes_eq word (codes "LOAD")) (bytes_eq word (codes "BYE"))
 kind_of_one sheet word =
-    chosen
-    (bytes_eq word (codes "LOAD"))
-    (bytes_eq word (codes "CUT"))
-    (bytes_eq word (codes "NET"))
-    (bytes_eq word (codes "BYE"))
-    (not_both word (codes "CUT") (codes "BYE") refl)
-    (not_both word (codes "NET") (codes "BYE") refl)
-  where
-    chosen : (load cut net bye : Bool) → (cut ≡ true → bye ≡ false) → (net ≡ true → bye ≡ false)
-        → IsKind (if load then Ok Load else if cut then Err WrongCount else if net then net_of sheet []
-        else if bye then Ok Bye else Err UnknownWord) false load bye
-    chosen true cut net bye p q = (refl, refl)
-    chosen false true net bye p q = (refl, refl, p refl)
-    chosen false false true bye p q = kind_of_other (net_of sheet []) false bye (other_net sheet []) refl (q refl)
-    chosen false false false true p q = (refl, refl, refl)
-    chosen false false false false p q = (refl, refl, refl)
+    let bye = bytes_eq word (codes "BYE") in
+    kind_load (bytes_eq word (codes "LOAD")) _ bye
+    (kind_past (bytes_eq word (codes "CUT")) _ _ bye (not_both word (codes "CUT") (codes "BYE") refl) tt
+    (kind_past (bytes_eq word (codes "TREE")) _ _ bye (not_both word (codes "TREE") (codes "BYE") refl)
+    (other_of_network Tree sheet [] tt)
+    (kind_past (bytes_eq word (codes "RUN")) _ _ bye (not_both word (codes "RUN") (codes "BYE") refl)
+    (other_of_network Run sheet [] tt)
+    (kind_past (bytes_eq word (codes "NET")) _ _ bye (not_both word (codes "NET") (codes "BYE") refl)
+    (other_of_network Net sheet [] tt) (kind_bye bye)))))
 
 -- Several words do neither.
 kind_of_more : (sheet : Option SheetView) (word second : List ℕ) (words : List (List ℕ))
     → IsKind (words_ask sheet (word ∷ second ∷ words)) false false false
 kind_of_more sheet word second words =
-    chosen
-    (bytes_eq word (codes "LOAD"))
-    (bytes_eq word (codes "CUT"))
-    (bytes_eq word (codes "NET"))
-    (bytes_eq word (codes "BYE"))
+    neither (bytes_eq word (codes "LOAD")) _ _ tt
+    (neither (bytes_eq word (codes "CUT")) _ _ (other_cut sheet (second ∷ words))
+    (neither (bytes_eq word (codes "TREE")) _ _ tt
+    (neither (bytes_eq word (codes "RUN")) _ _ tt
+    (neither (bytes_eq word (codes "NET")) _ _ tt
+    (neither (bytes_eq word (codes "BYE")) _ _ tt (refl, refl, refl))))))
   where
-    chosen : (load cut net bye : Bool)
-        → IsKind (if load then Err WrongCount else if cut then cut_of sheet (second ∷ words)
-        else if net then net_of sheet (second ∷ words) else if bye then Err WrongCount else Err UnknownWord)
-        false false false
-    chosen true cut net bye = (refl, refl, refl)
-    chosen false true net bye =
-        kind_of_other (cut_of sheet (second ∷ words)) false false (other_cut sheet (second ∷ words)) refl refl
-    chosen false false true bye =
-        kind_of_other (net_of sheet (second ∷ words)) false false (other_net sheet (second ∷ words)) refl refl
-    chosen false false false true = (refl, refl, refl)
-    chosen false false false false = (refl, refl, refl)
+    neither : (is : Bool) (answer rest : Result Request RequestFault) → IsOther answer
+        → IsKind rest false false false → IsKind (if is then answer else rest) false false false
+    neither is answer rest = kind_past is answer rest false (λ whatever. refl)
 
 -- Words that aren't those of a remark.
 kind_of_asked : (sheet : Option SheetView) (word : List ℕ) (words : List (List ℕ))
@@ -208,18 +221,26 @@ asks_bye sheet line =
       λ bye. only_bye (request_of sheet line) (rw (bye.0, bye.1, bye.2) at kind),
     )
 
+-- A line with such an answer is none of the three.
+other_kind : (answer : Result Request RequestFault) (passed load bye : Bool) → IsOther answer
+    → IsKind answer passed load bye → (passed ≡ false) × (load ≡ false) × (bye ≡ false)
+other_kind (Ok Nothing) passed load bye other kind = absurd other
+other_kind (Ok Load) passed load bye other kind = absurd other
+other_kind (Ok Bye) passed load bye other kind = absurd other
+other_kind answer passed load bye other kind = kind
+
+-- Where a line asks something of a record or has a fault, it is none of the three.
+pub other_asks : (sheet : Option SheetView) (line : List ℕ) (answer : Result Request RequestFault)
+    → request_of sheet line ≡ answer → IsOther answer
+    → (is_passed line ≡ false) × (is_load line ≡ false) × (is_bye line ≡ false)
+other_asks sheet line answer is other =
+    other_kind answer (is_passed line) (is_load line) (is_bye line) other (answer_kind sheet line answer is)
+
 -- Exactly the other lines ask for something of a record or have a fault.
 pub asks_other : (sheet : Option SheetView) (line : List ℕ)
     → IsOther (request_of sheet line) ↔ ((is_passed line ≡ false) × (is_load line ≡ false) × (is_bye line ≡ false))
 asks_other sheet line =
     let kind = request_kind sheet line in (
-      λ other. none_of_them (request_of sheet line) (is_passed line) (is_load line) (is_bye line) other kind,
+      λ other. other_asks sheet line (request_of sheet line) refl other,
       λ none. only_other (request_of sheet line) (rw (none.0, none.1, none.2) at kind),
     )
-  where
-    none_of_them : (answer : Result Request RequestFault) (passed load bye : Bool) → IsOther answer
-        → IsKind answer passed load bye → (passed ≡ false) × (load ≡ false) × (bye ≡ false)
-    none_of_them (Ok Nothing) passed load bye other kind = absurd other
-    none_of_them (Ok Load) passed load bye other kind = absurd other
-    none_of_them (Ok Bye) passed load bye other kind = absurd other
-    none_of_them answer passed load bye other kind = kind

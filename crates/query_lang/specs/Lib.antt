@@ -1,2 +1,4 @@
 pub mod Replies
+pub mod Reports
 pub mod Requests
+pub mod Trees

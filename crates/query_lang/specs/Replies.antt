@@ -5,8 +5,6 @@ use Rattle.std.specs.declared.option.Option.{Option}
 use Rattle.cut_model.specs.Net.{Net}
 use Rattle.network_text.specs.Sheets.{SheetView}
 use Rattle.network_text.specs.Writing.{sheet_text}
-use Rattle.query_lang.specs.declared.request.Request.{Request}
-use Rattle.query_lang.specs.declared.request.Request.TheVariants as asks
 
 -- A network was accepted: its numbers of routers and links.
 unfoldable pub loaded_text : ℕ → Net → List ℕ
@@ -42,11 +40,6 @@ sheet_lines sheet = sheet.net.routers + length sheet.net.links + 1
 -- The network, as a text that loads it again.
 unfoldable pub net_text : ℕ → SheetView → List ℕ
 net_text version sheet = head_text version (codes "NET") (sheet_lines sheet) ++ sheet_text sheet
-
--- The reply to a request that tells of the whole network.
-abbrev pub reply_text : ℕ → SheetView → Request → List ℕ
-reply_text version sheet asks.Net = net_text version sheet
-reply_text version sheet _ = []
 
 -- A space and the name of a router that is in the side.
 abbrev pub name_piece : List ℕ → Bool → List ℕ

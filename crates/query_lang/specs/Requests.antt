@@ -6,7 +6,7 @@ use Rattle.text_forms.specs.Lines.{is_long}
 use Rattle.text_forms.specs.Words.{line_words, is_remark}
 use Rattle.network_text.specs.Sheets.{SheetView, number_of}
 use Rattle.query_lang.specs.declared.request.Request.{Request}
-use Rattle.query_lang.specs.declared.request.Request.TheVariants.{Nothing, Load, Cut, Net, Bye}
+use Rattle.query_lang.specs.declared.request.Request.TheVariants.{Nothing, Load, Cut, Tree, Run, Net, Bye}
 use Rattle.query_lang.specs.declared.request.RequestFault.{RequestFault}
 use Rattle.query_lang.specs.declared.request.RequestFault.TheVariants.{UnknownWord, LineTooLong, WrongCount}
 use Rattle.query_lang.specs.declared.request.RequestFault.TheVariants.{UnknownRouter, SameRouter, NoNetwork}
@@ -41,11 +41,11 @@ abbrev pub cut_of : Option SheetView → List (List ℕ) → Result Request Requ
 cut_of sheet (first ∷ second ∷ []) = cut_named sheet first second
 cut_of sheet _ = Err WrongCount
 
--- No words are behind `NET`, and there is a network.
-abbrev pub net_of : Option SheetView → List (List ℕ) → Result Request RequestFault
-net_of sheet (word ∷ words) = Err WrongCount
-net_of None [] = Err NoNetwork
-net_of (Some sheet) [] = Ok Net
+-- A request of one word that asks for the network that there is, by the words behind it.
+abbrev pub of_network : Request → Option SheetView → List (List ℕ) → Result Request RequestFault
+of_network request sheet (word ∷ words) = Err WrongCount
+of_network request None [] = Err NoNetwork
+of_network request (Some sheet) [] = Ok request
 
 -- The first word says what is asked for.
 abbrev pub words_ask : Option SheetView → List (List ℕ) → Result Request RequestFault
@@ -53,7 +53,9 @@ words_ask sheet [] = Ok Nothing
 words_ask sheet (word ∷ words) =
     if bytes_eq word (codes "LOAD") then alone Load words
     else if bytes_eq word (codes "CUT") then cut_of sheet words
-    else if bytes_eq word (codes "NET") then net_of sheet words
+    else if bytes_eq word (codes "TREE") then of_network Tree sheet words
+    else if bytes_eq word (codes "RUN") then of_network Run sheet words
+    else if bytes_eq word (codes "NET") then of_network Net sheet words
     else if bytes_eq word (codes "BYE") then alone Bye words
     else Err UnknownWord
 
@@ -69,14 +71,18 @@ request_of sheet line =
 abbrev pub AreEnds : SheetView → ℕ → ℕ → Type 0
 AreEnds sheet a b = (a ≢ b) × (a < sheet.net.routers) × (b < sheet.net.routers)
 
--- A cut is between two different routers of the network, and NET asks for one.
+-- A cut is between two different routers of the network, and TREE, RUN and NET ask for a network.
 abbrev pub IsOf : Option SheetView → Request → Type 0
 IsOf None (Cut a b) = ⊥
+IsOf None Tree = ⊥
+IsOf None Run = ⊥
 IsOf None Net = ⊥
 IsOf (Some sheet) (Cut a b) = AreEnds sheet a b
 IsOf sheet _ = Unit {0}
 
 -- A request whose reply `write_reply` writes.
 abbrev pub IsReported : Request → Type 0
+IsReported Tree = Unit {0}
+IsReported Run = Unit {0}
 IsReported Net = Unit {0}
 IsReported _ = ⊥

@@ -1,7 +1,9 @@
 //! The room in which a session gathers one reply before it is put.
 ghost use Rattle.std.specs.Prelude.{◌≡◌, ◌+◌, ◌≤◌, [], Some, IfOk, length, nat_le};
 ghost use Rattle.std.specs.Prelude.{vec_capacity, vec_len};
-ghost use Rattle.query_lang.specs.Replies.{bye_text, cut_text, loaded_text, net_text, refused_text};
+ghost use Rattle.query_lang.specs.Replies.{bye_text, cut_text, loaded_text, refused_text};
+ghost use Rattle.query_lang.specs.Reports.{reply_text};
+ghost use Rattle.query_lang.specs.Requests.{IsReported};
 ghost use Rattle.wires.specs.Beside.{nothing_beside};
 
 use crate::Request;
@@ -10,6 +12,7 @@ use cut_model::{Network, NoMemory, Side};
 use network_text::Sheet;
 use std::alloc::Global;
 use std::marker::Model;
+use tree_state::Finished;
 use wires::{Failed, Sink};
 
 /// The most bytes that are gathered. The longest reply is that to NET for the largest network with
@@ -115,14 +118,23 @@ pub fn cut_reply(buffer: &mut ReplyBuffer, version: u32, value: u64, sheet: &She
     write_cut(version, value, sheet, side, gathered).unwrap();
 }
 
-/// Gathers the reply that tells the network, in place of what the buffer had.
-pub fn net_reply(buffer: &mut ReplyBuffer, version: u32, sheet: &Sheet)
-    ensures { buffer.new ≡ net_text version sheet.now }
+/// Gathers the reply to TREE, RUN or NET, in place of what the buffer had.
+pub fn report_reply(
+    buffer: &mut ReplyBuffer,
+    version: u32,
+    sheet: &Sheet,
+    finished: &Finished,
+    request: &Request,
+)
+    requires reported { IsReported request.now }
+    requires same { finished.now.net ≡ sheet.now.net }
+    ensures { buffer.new ≡ reply_text version sheet.now finished.now request.now }
 {
     prove!(sheet.net().links().len() <= 8192);
+    prove!(finished.commits() < 1024);
     let gathered = &mut buffer.gathered;
     gathered.bytes.clear();
-    write_reply(version, sheet, &Request::Net, gathered).unwrap();
+    write_reply(version, sheet, finished, request, gathered).unwrap();
 }
 
 /// Gathers the reply to the line that ends a session, in place of what the buffer had.

@@ -12,6 +12,6 @@ mod request;
 #[cfg(test)]
 mod tests;
 
-pub use buffer::{ReplyBuffer, bye_reply, cut_reply, loaded_reply, net_reply, refusal_reply};
+pub use buffer::{ReplyBuffer, bye_reply, cut_reply, loaded_reply, refusal_reply, report_reply};
 pub use replies::{write_bye, write_cut, write_head, write_loaded, write_refusal, write_reply};
 pub use request::{Request, RequestFault, parse_request};

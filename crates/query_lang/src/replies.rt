@@ -1,9 +1,15 @@
 //! Replies, written to a sink. Each begins with the version of the network that it speaks of, 0
 //! where there is none, and ends with a line feed. No call takes memory.
-ghost use Rattle.std.specs.Prelude.{◌≡◌, ℕ, ◌<◌, List, [], Bool, length, slice_index_or, false};
+ghost use Rattle.std.specs.Prelude.{◌≡◌, ℕ, ◌<◌, List, [], Bool, length, map, slice_get, slice_index_or, false};
+ghost use Rattle.std.specs.Prelude.{Some, ◌-◌};
+ghost use Rattle.std.specs.List.{concat};
+ghost use Rattle.cut_model.specs.Terminals.{terminal_count};
 ghost use Rattle.query_lang.specs.Replies.{bye_text, cut_head, cut_text, loaded_text, name_piece};
 ghost use Rattle.query_lang.specs.Replies.{head_text, line_piece, net_text, refusal_head, refused_text};
-ghost use Rattle.query_lang.specs.Replies.{reply_text, sheet_lines, side_names};
+ghost use Rattle.query_lang.specs.Replies.{sheet_lines, side_names};
+ghost use Rattle.query_lang.specs.Reports.{reply_text};
+ghost use Rattle.query_lang.specs.Trees.{children_of, child_line, child_piece, commit_line, edge_line};
+ghost use Rattle.query_lang.specs.Trees.{run_text, tree_text};
 ghost use Rattle.query_lang.specs.Requests.{IsReported};
 ghost use Rattle.wires.specs.Puts.{Puts};
 
@@ -11,6 +17,7 @@ use crate::Request;
 use cut_model::{Network, Side};
 use itoa::Buffer;
 use network_text::{Sheet, write_sheet};
+use tree_state::{Entry, Finished};
 use wires::{Failed, Sink, put_pieces};
 
 /// Writes the reply to an accepted network: its numbers of routers and links.
@@ -146,24 +153,154 @@ fn write_net<K: Sink>(version: u32, sheet: &Sheet, sink: &mut K) -> Result<(), F
     write_sheet(sheet, sink)
 }
 
-/// Writes the reply to a request that tells of a whole record. NET is the one that there is.
+/// Writes the line of an edge: the names of its lower end and of the router above it, and a number.
+fn write_edge<K: Sink>(
+    sheet: &Sheet,
+    child: u32,
+    above: u32,
+    number: u64,
+    sink: &mut K,
+) -> Result<(), Failed>
+    requires child { child < length sheet.now.names }
+    requires above { above < length sheet.now.names }
+    ensures puts { Puts K.written K.write_faults K.beside_sink K.takes sink.old sink.new result
+        (edge_line sheet.now.names child above number) }
+{
+    let mut digits = Buffer::new();
+    put_pieces(
+        &[
+            sheet.name_of(child),
+            b" ",
+            sheet.name_of(above),
+            b" ",
+            digits.format(number).as_bytes(),
+            b"\n",
+        ],
+        sink,
+    )
+}
+
+/// Writes the line of the edge that leads up from the router, where it is a terminal but not the root.
+fn write_child<K: Sink>(
+    sheet: &Sheet,
+    finished: &Finished,
+    router: u32,
+    sink: &mut K,
+) -> Result<(), Failed>
+    requires same { finished.now.net ≡ sheet.now.net }
+    requires within { router < sheet.now.net.routers }
+    ensures puts { Puts K.written K.write_faults K.beside_sink K.takes sink.old sink.new result
+        (child_piece sheet.now.names finished.now router) }
+{
+    let net = sheet.net();
+    if net.is_terminal(router) && router != net.root() {
+        let above = finished.up(router);
+        write_edge(sheet, router, above, finished.width(router), sink)
+    } else {
+        Ok(())
+    }
+}
+
+/// Writes the lines of all edges, in the order of their lower ends.
+fn write_children<K: Sink>(sheet: &Sheet, finished: &Finished, sink: &mut K) -> Result<(), Failed>
+    requires { finished.now.net ≡ sheet.now.net }
+    ensures puts { Puts K.written K.write_faults K.beside_sink K.takes sink.old sink.new result
+        (concat (map (child_line sheet.now.names finished.now) (children_of finished.now.net))) }
+{
+    for router in 0..sheet.net().routers() {
+        write_child(sheet, finished, router, sink)?;
+    }
+    Ok(())
+}
+
+/// How many edges the tree has. Each commit made one.
+fn edge_count(finished: &Finished) -> u64
+    ensures edges { result ≡ terminal_count finished.now.net - 1 }
+    ensures commits { result ≡ length finished.now.history }
+{
+    u64::from(finished.commits())
+}
+
+/// Writes the tree, behind a first line that tells its number of edges.
+#[tactic(auto, unfolding(crate::specs::Trees::tree_text))]
+fn write_tree<K: Sink>(
+    version: u32,
+    sheet: &Sheet,
+    finished: &Finished,
+    sink: &mut K,
+) -> Result<(), Failed>
+    requires { finished.now.net ≡ sheet.now.net }
+    ensures puts { Puts K.written K.write_faults K.beside_sink K.takes sink.old sink.new result
+        (tree_text version sheet.now finished.now) }
+{
+    write_head(version, "TREE", edge_count(finished), sink)?;
+    write_children(sheet, finished, sink)
+}
+
+/// The entry of the commit at a place. The sheet has names for its two routers.
+fn named_entry<'a>(sheet: &Sheet, finished: &'a Finished, place: u32) -> &'a Entry
+    requires same { finished.now.net ≡ sheet.now.net }
+    requires within { place < length finished.now.history }
+    ensures value { slice_get finished.now.history place ≡ Some result.now }
+    ensures router { result.now.router < length sheet.now.names }
+    ensures neighbour { result.now.neighbour < length sheet.now.names }
+{
+    prove!(finished.net().routers() == sheet.net().routers());
+    finished.entry(place)
+}
+
+/// Writes the lines of all commits, the oldest first.
+fn write_commits<K: Sink>(sheet: &Sheet, finished: &Finished, sink: &mut K) -> Result<(), Failed>
+    requires { finished.now.net ≡ sheet.now.net }
+    ensures puts { Puts K.written K.write_faults K.beside_sink K.takes sink.old sink.new result
+        (concat (map (commit_line sheet.now.names) finished.now.history)) }
+{
+    for place in 0..finished.commits() {
+        let entry = named_entry(sheet, finished, place);
+        write_edge(sheet, entry.router, entry.neighbour, entry.value, sink)?;
+    }
+    Ok(())
+}
+
+/// Writes the run that made the tree, behind a first line that tells its number of commits.
+#[tactic(auto, unfolding(crate::specs::Trees::run_text))]
+fn write_run<K: Sink>(
+    version: u32,
+    sheet: &Sheet,
+    finished: &Finished,
+    sink: &mut K,
+) -> Result<(), Failed>
+    requires { finished.now.net ≡ sheet.now.net }
+    ensures puts { Puts K.written K.write_faults K.beside_sink K.takes sink.old sink.new result
+        (run_text version sheet.now finished.now) }
+{
+    write_head(version, "RUN", edge_count(finished), sink)?;
+    write_commits(sheet, finished, sink)
+}
+
+/// Writes the reply to TREE, RUN or NET, from a network with the names of its routers and the
+/// finished run over it. It takes no memory, and looks at each router, commit and link once.
 ///
 /// # Errors
 /// [`Failed`] where a put failed. A front of the reply was written then.
 pub fn write_reply<K: Sink>(
     version: u32,
     sheet: &Sheet,
+    finished: &Finished,
     request: &Request,
     sink: &mut K,
 ) -> Result<(), Failed>
-    requires { IsReported request.now }
+    requires reported { IsReported request.now }
+    requires same { finished.now.net ≡ sheet.now.net }
     ensures puts { Puts K.written K.write_faults K.beside_sink K.takes sink.old sink.new result
-        (reply_text version sheet.now request.now) }
+        (reply_text version sheet.now finished.now request.now) }
 {
-    let Request::Net = request else {
-        unreachable!()
-    };
-    write_net(version, sheet, sink)
+    match request {
+        Request::Tree => write_tree(version, sheet, finished, sink),
+        Request::Run => write_run(version, sheet, finished, sink),
+        Request::Net => write_net(version, sheet, sink),
+        _ => unreachable!(),
+    }
 }
 
 /// Writes a space and the name of the router, where it is in the side.

@@ -2,7 +2,7 @@
 ghost use Rattle.std.specs.Prelude.{◌≡◌, IfOk, Some};
 ghost use Rattle.std.specs.Option.{option_copied};
 ghost use Rattle.network_text.specs.Sheets.{number_of};
-ghost use Rattle.query_lang.specs.Requests.{IsOf, alone, cut_between, cut_of, fault_number, net_of, request_of};
+ghost use Rattle.query_lang.specs.Requests.{IsOf, alone, cut_between, cut_of, fault_number, of_network, request_of};
 ghost use Rattle.query_lang.specs.Requests.{words_ask};
 ghost use Rattle.text_forms.specs.Words.{words_of};
 
@@ -20,6 +20,10 @@ pub enum Request {
     /// The least cut between two routers, by their numbers. The two differ, and both are routers of
     /// the sheet with which the line was parsed.
     Cut(u32, u32),
+    /// The tree of the network.
+    Tree,
+    /// The commits that made the tree, in their order.
+    Run,
     /// The network.
     Net,
     /// The end of the session.
@@ -98,8 +102,12 @@ fn parse_words(text: &[u8], sheet: Option<&Sheet>) -> Result<Request, RequestFau
         parse_alone(Request::Load, behind)
     } else if word == b"CUT".as_slice() {
         parse_cut(behind, sheet)
+    } else if word == b"TREE".as_slice() {
+        parse_of_network(Request::Tree, behind, sheet)
+    } else if word == b"RUN".as_slice() {
+        parse_of_network(Request::Run, behind, sheet)
     } else if word == b"NET".as_slice() {
-        parse_net(behind, sheet)
+        parse_of_network(Request::Net, behind, sheet)
     } else if word == b"BYE".as_slice() {
         parse_alone(Request::Bye, behind)
     } else {
@@ -117,12 +125,15 @@ fn parse_alone(request: Request, text: &[u8]) -> Result<Request, RequestFault>
     Ok(request)
 }
 
-/// What the words behind `NET` ask for.
-fn parse_net(text: &[u8], sheet: Option<&Sheet>) -> Result<Request, RequestFault>
-    ensures value { result ≡ net_of (option_copied sheet.entry) (words_of text.now) }
-    ensures of { IfOk result (IsOf (option_copied sheet.entry)) }
+/// A request of one word that asks for the network that there is, by what stands behind the word.
+fn parse_of_network(
+    request: Request,
+    text: &[u8],
+    sheet: Option<&Sheet>,
+) -> Result<Request, RequestFault>
+    ensures { result ≡ of_network request (option_copied sheet.entry) (words_of text.now) }
 {
-    let request = parse_alone(Request::Net, text)?;
+    let request = parse_alone(request, text)?;
     if sheet.is_none() {
         return Err(RequestFault::NoNetwork);
     }

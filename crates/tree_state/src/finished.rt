@@ -2,7 +2,8 @@
 ghost use Rattle.std.specs.Prelude.{◌≡◌, ◌+◌, ◌<◌, Some, length, slice_get};
 ghost use Rattle.std.specs.Arc.{arc_value};
 ghost use Rattle.cut_model.specs.Terminals.{IsTerminal, terminal_count, root_of};
-ghost use Rattle.tree_state.specs.History.{tables, IsComplete};
+ghost use Rattle.tree_state.specs.Growing.{up_of, width_of, HoldsCutTree};
+ghost use Rattle.tree_state.specs.History.{IsComplete};
 
 use crate::entry::Entry;
 use crate::growing::Growing;
@@ -10,29 +11,31 @@ use cut_model::Network;
 use std::marker::Model;
 use std::sync::Arc;
 
-/// The tree of a complete history: every terminal but the root was committed. An edge leads from
-/// each other router up to the one above it. That such a router hangs from another says that a cut
-/// between these two is known, and not that a link joins them. Contracts see a `GrowingView`.
+/// A cut tree, that of a complete history: every terminal but the root was committed. An edge leads
+/// from each other router up to the one above it. What is below its lower end is a least cut of its
+/// two ends, and costs its width. That a router hangs from another says no more than that, and not
+/// that a link joins the two. Contracts see a `GrowingView`.
 #[derive(Drop)]
 pub struct Finished {
     grown: Growing,
 }
 
 impl Model for Finished {
-    ghost use Rattle.tree_state.specs.Growing.{GrowingView};
+    ghost use Rattle.tree_state.specs.Growing.{GrowingView, HoldsCutTree};
     ghost use Rattle.tree_state.specs.History.{IsComplete};
 
     ghost Value = { GrowingView };
 
     ghost view = { λ f. f.grown };
 
-    ghost invariant = { λ f. IsComplete f.grown.net f.grown.history };
+    ghost invariant = { λ f. IsComplete f.grown.net f.grown.history × HoldsCutTree f.grown };
 }
 
 impl Finished {
     /// Holds a tree whose history is complete. It takes no memory.
     pub fn hold(grown: Growing) -> Finished
-        requires { IsComplete grown.net grown.history }
+        requires complete { IsComplete grown.net grown.history }
+        requires tree { HoldsCutTree grown }
         ensures { result ≡ grown }
     {
         Finished { grown }
@@ -42,6 +45,7 @@ impl Finished {
     pub fn net(&self) -> &Arc<Network>
         ensures value { arc_value result.now ≡ self.now.net }
         ensures complete { IsComplete self.now.net self.now.history }
+        ensures tree { HoldsCutTree self.now }
     {
         self.grown.net()
     }
@@ -59,7 +63,7 @@ impl Finished {
     #[inline]
     pub fn up(&self, c: u32) -> u32
         requires { c < self.now.net.routers }
-        ensures value { result ≡ (tables (root_of self.now.net) self.now.history).up c }
+        ensures value { result ≡ up_of self.now c }
         ensures within { result < self.now.net.routers }
     {
         self.grown.neighbour(c)
@@ -69,7 +73,7 @@ impl Finished {
     #[inline]
     pub fn width(&self, c: u32) -> u64
         requires { c < self.now.net.routers }
-        ensures { result ≡ (tables (root_of self.now.net) self.now.history).width c }
+        ensures { result ≡ width_of self.now c }
     {
         self.grown.width(c)
     }

@@ -1,6 +1,7 @@
-use Rattle.std.proofs.Common.{◌≡◌, ◌∙◌, ap, arith}
-use Rattle.cut_model.specs.Net.{Net}
-use Rattle.cut_model.proofs.Terminals.{terminal-lt}
+use Rattle.std.proofs.Common.{◌≡◌, ◌∙◌, ap, subst, arith}
+use Rattle.cut_model.specs.Net.{Net, IsInLimits}
+use Rattle.cut_model.proofs.Terminals.{root_terminal, terminal-lt}
+use Rattle.tree_state.proofs.CutTrees.{complete_cut_tree}
 use Rattle.commit_rule.proofs.completion.all_done.Goals as goal
 
 pub returns-clause-done : goal.returns-clause-done
@@ -13,3 +14,11 @@ returns-clause-done c =
       all = λ r terminal not_root. c.loop-router.invariant r
           (omega (arith, terminal-lt c.args.grow.now.net r terminal)) terminal not_root;
     }
+
+pub returns-clause-tree : goal.returns-clause-tree
+returns-clause-tree c =
+    let limits : IsInLimits c.args.grow.now.net.routers c.args.grow.now.net.links =
+    subst (λ (net : Net). IsInLimits net.routers net.links) (c.deref.ensures ∙ c.net.ensures.value)
+    c.routers-router-end.ensures.limits in
+    λ done. complete_cut_tree c.args.grow.now.net (root_terminal c.args.grow.now.net limits) c.args.grow.now.history
+    (returns-clause-done c done)

@@ -10,5 +10,5 @@ returns-clause-all c =
     (omega (
       arith,
       c.commits.ensures.value,
-      length-complete c.self.inside.grown.net c.commits.ensures.limits c.self.inside.grown.history c.self.invariant,
+      length-complete c.self.inside.grown.net c.commits.ensures.limits c.self.inside.grown.history c.self.invariant.0,
     ))

@@ -1,0 +1,35 @@
+use Rattle.std.proofs.Common.{◌≤◌, ap, arith, length}
+use Rattle.cut_model.specs.Net.{Net}
+use Rattle.cut_model.specs.Terminals.{is_terminal}
+use Rattle.cut_model.proofs.Counting.{number_in-le}
+use Rattle.query_lang.specs.Reports.{reply_text}
+use Rattle.query_lang.proofs.Fits.{put_alone, takes_text}
+use Rattle.query_lang.proofs.Lengths.{length-reply_text}
+use Rattle.query_lang.proofs.buffer.report_reply.Goals as goal
+
+pub prove-unreachable-requires-2 : goal.prove-unreachable-requires-2
+prove-unreachable-requires-2 c =
+    let net = c.args.finished.now.net in
+    let routers = ap (λ (net : Net). net.routers) c.requires.same in
+    absurd (omega (
+      arith,
+      number_in-le (is_terminal net) net.routers,
+      routers,
+      c.net.ensures.sheet.limits.few_routers,
+      c.if-prove-2.true,
+    ))
+
+pub unwrap-requires : goal.unwrap-requires
+unwrap-requires c =
+    let tree = c.args.finished.now in
+    let request = c.args.request.now in
+    let text = reply_text c.args.version c.args.sheet.now tree request in
+    let few : length tree.history ≤ 1024 = omega (arith, c.commits.ensures.value, c.if-prove-2.false) in
+    let short = length-reply_text c.args.version c.args.sheet.now tree request c.net.ensures.sheet c.requires.same few
+    c.requires.reported in
+    c.write_reply.ensures.puts.sure 0 (takes_text _ text c.clear.ensures.items short)
+
+pub returns : goal.returns
+returns c =
+    let text = reply_text c.args.version c.args.sheet.now c.args.finished.now c.args.request.now in
+    put_alone _ _ text _ c.unwrap.result c.clear.ensures.items c.unwrap.ensures c.write_reply.ensures.puts.bytes
