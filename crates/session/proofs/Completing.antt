@@ -1,5 +1,5 @@
 -- A session of few bytes whose peer never fails reads to the end, or to a BYE.
-use Rattle.std.proofs.Common.{◌≡◌, ℕ, ◌^◌, ◌<◌, ◌≤◌, List, ◌++◌, length, None, Some, Bool, ap, arith, refl, length-append}
+use Rattle.std.proofs.Common.{◌≡◌, ℕ, ◌^◌, ◌<◌, ◌≤◌, List, length, None, Some, Bool, ap, arith, refl, length-append}
 use Rattle.std.specs.Io.KnownBytes.{Consumes}
 use Rattle.std.specs.declared.option.Option.{Option}
 use Rattle.session.specs.Turns.{EndsAs}
