@@ -1,5 +1,5 @@
 //! The top call.
-ghost use Rattle.std.specs.Prelude.{◌≡◌, ℕ, ◌+◌, ◌^◌, ◌≤◌, ◌↔◌, ◌⊎◌, ◌++◌, List, [], Some, None, true, false};
+ghost use Rattle.std.specs.Prelude.{◌≡◌, ℕ, ◌+◌, ◌^◌, ◌<◌, ◌≤◌, ◌↔◌, ◌⊎◌, ◌++◌, List, [], Some, None, true, false};
 ghost use Rattle.std.specs.Prelude.{length, map, IfOk, IsTrue};
 ghost use Rattle.std.specs.String.{string_bytes};
 ghost use Rattle.planner_server.specs.Commands.{IsPlan};
@@ -86,6 +86,9 @@ fn serve_both<S: Source, K: Sink>(
     ensures runs { AreFinished (views_of shelf.new.records.items) }
     ensures read_fault { result ≡ SessionEnd.ReadFault → Rose (S.read_faults source.old) (S.read_faults source.new) }
     ensures write_fault { result ≡ SessionEnd.WriteFault → Rose (K.write_faults sink.old) (K.write_faults sink.new) }
+    ensures completes { (bytes : List ℕ) → S.left source.old ≡ Some bytes → length bytes < 2 ^ 30
+        → (Rose (S.read_faults source.old) (S.read_faults source.new) → ⊥)
+        → (Rose (K.write_faults sink.old) (K.write_faults sink.new) → ⊥) → result ≡ SessionEnd.Done }
     ensures reads { S.read_faults source.old ≤ S.read_faults source.new }
     ensures writes { K.write_faults sink.old ≤ K.write_faults sink.new }
     ensures beside_source { S.beside_source source.new ≡ S.beside_source source.old }
@@ -150,6 +153,13 @@ pub fn run<S: Source, K: Sink>(
         → S.left source.new ≡ Some rest → length taken ≡ 2 ^ 30 → S.ended source.new ≡ false
         → NoBye (items_of false taken)
         → (Rose (K.write_faults sink.old) (K.write_faults sink.new) → ⊥) → result.status ≡ Status.TooLong }
+
+    // Where the source tells that it has fewer than 2^30 bytes left and nothing fails, all are answered, unless there
+    // was no memory to begin with.
+    ensures completes { (bytes : List ℕ) → IsPlan (map string_bytes words.now) → S.left source.old ≡ Some bytes
+        → length bytes < 2 ^ 30 → (Rose (S.read_faults source.old) (S.read_faults source.new) → ⊥)
+        → (Rose (K.write_faults sink.old) (K.write_faults sink.new) → ⊥)
+        → (result.status ≡ Status.Done) ⊎ (result.status ≡ Status.NoMemory) }
 
     // Nothing else of the two objects changed.
     ensures beside_source { S.beside_source source.new ≡ S.beside_source source.old }

@@ -3,12 +3,16 @@ use Rattle.std.proofs.Common.{◌≡◌, List, [], ◌∷◌, Ok, Err, true, fal
 use Rattle.std.specs.Fmt.{digits}
 use Rattle.cut_model.specs.Cuts.{IsLeastCut, set_of, cut_value}
 use Rattle.cut_model.specs.Net.{Net}
+use Rattle.cut_model.specs.Terminals.{is_terminal, number_in, root_of}
 use Rattle.network_text.specs.Sheets.{SheetView}
 use Rattle.network_text.specs.Texts.{verdict_of}
 use Rattle.network_text.specs.declared.fault.TextKind.TheVariants.{UnknownWord, NoTerminal, EndedEarly}
 use Rattle.session.specs.Answers.{Alone, Answers, IsTold}
 use Rattle.query_lang.specs.Replies.{loaded_text, bye_text, refused_text, cut_text}
+use Rattle.query_lang.specs.Trees.{tree_text}
 use Rattle.text_forms.specs.Items.{Item, Ask, Load, Bye, items_of}
+use Rattle.tree_state.specs.History.{tables}
+use Rattle.tree_state.specs.Tables.{up_after, width_after}
 use Rattle.tree_versions.specs.Records.{RecordView}
 
 -- two routers and a link of 5
@@ -38,10 +42,12 @@ unfolding cut_value
 least = record { holds = refl; lacks = refl; value = refl; least = λ Y holds lacks. rw (holds, lacks) (omega arith) }
 
 items : List Item
-items = Load (codes "link a b 5" ∷ []) true ∷ Ask (codes "CUT a b") ∷ Ask (codes "CUT a a") ∷ Load [] true ∷ Bye ∷ []
+items = Load (codes "link a b 5" ∷ []) true ∷ Ask (codes "CUT a b") ∷ Ask (codes "TREE") ∷ Ask (codes "CUT a a")
+    ∷ Load [] true ∷ Bye ∷ []
 
 -- the items of a small session
-items_are : items_of true (codes "LOAD\nlink a b 5\nEND\n# note\nCUT a b\nCUT a a\nLOAD\nEND\nBYE\nCUT a b\n") ≡ items
+items_are : items_of true
+    (codes "LOAD\nlink a b 5\nEND\n# note\nCUT a b\nTREE\nCUT a a\nLOAD\nEND\nBYE\nCUT a b\n") ≡ items
 unfolding items
 items_are = refl
 
@@ -63,13 +69,14 @@ by_first P told = record {
 
 -- and the text that answers them
 answered : Alone (made ∷ []) 0 items
-    (codes "@1 LOADED routers 2 links 1\n@1 CUT 5 side a\n@1 NO 5\n@1 NO 18 line 1\n@1 BYE\n")
-unfolding items loaded_text bye_text refused_text cut_text digits
+    (codes "@1 LOADED routers 2 links 1\n@1 CUT 5 side a\n@1 TREE 1\nb a 5\n@1 NO 5\n@1 NO 18 line 1\n@1 BYE\n")
+unfolding items loaded_text bye_text refused_text cut_text tree_text tables up_after width_after is_terminal root_of
+    number_in digits
 answered = record {
   loads = 1;
   answers = record {
     reply = codes "@1 LOADED routers 2 links 1\n";
-    rest = codes "@1 CUT 5 side a\n@1 NO 5\n@1 NO 18 line 1\n@1 BYE\n";
+    rest = codes "@1 CUT 5 side a\n@1 TREE 1\nb a 5\n@1 NO 5\n@1 NO 18 line 1\n@1 BYE\n";
     next = 1;
     loaded = 1;
     others = 0;
@@ -87,7 +94,7 @@ answered = record {
     sum = refl;
     on = record {
       reply = codes "@1 CUT 5 side a\n";
-      rest = codes "@1 NO 5\n@1 NO 18 line 1\n@1 BYE\n";
+      rest = codes "@1 TREE 1\nb a 5\n@1 NO 5\n@1 NO 18 line 1\n@1 BYE\n";
       next = 1;
       loaded = 0;
       others = 0;
@@ -95,33 +102,43 @@ answered = record {
       joins = refl;
       sum = refl;
       on = record {
-        reply = codes "@1 NO 5\n";
-        rest = codes "@1 NO 18 line 1\n@1 BYE\n";
+        reply = codes "@1 TREE 1\nb a 5\n";
+        rest = codes "@1 NO 5\n@1 NO 18 line 1\n@1 BYE\n";
         next = 1;
         loaded = 0;
         others = 0;
-        step = by_first _ refl;
+        step = by_first _ (tt, refl);
         joins = refl;
         sum = refl;
         on = record {
-          reply = codes "@1 NO 18 line 1\n";
-          rest = codes "@1 BYE\n";
+          reply = codes "@1 NO 5\n";
+          rest = codes "@1 NO 18 line 1\n@1 BYE\n";
           next = 1;
           loaded = 0;
           others = 0;
-          step = by_first _ (inl refl);
+          step = by_first _ refl;
           joins = refl;
           sum = refl;
           on = record {
-            reply = codes "@1 BYE\n";
-            rest = [];
+            reply = codes "@1 NO 18 line 1\n";
+            rest = codes "@1 BYE\n";
             next = 1;
             loaded = 0;
             others = 0;
-            step = by_first _ refl;
+            step = by_first _ (inl refl);
             joins = refl;
             sum = refl;
-            on = (refl, refl, refl);
+            on = record {
+              reply = codes "@1 BYE\n";
+              rest = [];
+              next = 1;
+              loaded = 0;
+              others = 0;
+              step = by_first _ refl;
+              joins = refl;
+              sum = refl;
+              on = (refl, refl, refl);
+            };
           };
         };
       };

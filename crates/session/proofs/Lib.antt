@@ -5,4 +5,5 @@ pub mod Turning
 pub mod Loading
 pub mod Requesting
 pub mod Building
+pub mod Completing
 pub mod Examples

@@ -3,12 +3,12 @@ use Rattle.std.proofs.Common.{◌≡◌, ℕ, ◌≤◌, List, [], ◌∷◌, le
 use Rattle.std.proofs.Common.{ap, ◌∙◌, arith, subst, Result, Ok, Err}
 use Rattle.std.specs.declared.option.Option.{Option}
 use Rattle.network_text.specs.Sheets.{SheetView}
-use Rattle.query_lang.specs.Replies.{bye_text, refused_text}
-use Rattle.query_lang.specs.Requests.{request_of, fault_number}
+use Rattle.query_lang.specs.Replies.{bye_text}
+use Rattle.query_lang.specs.Requests.{request_of}
 use Rattle.query_lang.specs.declared.request.Request.{Request}
-use Rattle.query_lang.specs.declared.request.Request.TheVariants.{Nothing, Load, Cut, Net, Bye}
+use Rattle.query_lang.specs.declared.request.Request.TheVariants.{Nothing, Load, Cut, Tree, Run, Net, Bye}
 use Rattle.query_lang.specs.declared.request.RequestFault.{RequestFault}
-use Rattle.query_lang.proofs.RequestKinds.{IsKind, request_kind}
+use Rattle.query_lang.proofs.RequestKinds.{IsKind, IsOther, asks_other, request_kind}
 use Rattle.session.specs.Answers.{IsReply, RepliesTo, Step, sheet_in}
 use Rattle.session.specs.Modes.{next_text, gives, Gives}
 use Rattle.session.specs.Taking.{Holds, IsTaken, IsByeTaken}
@@ -32,22 +32,23 @@ kind sheet line answer is =
     subst (λ (a : Result Request RequestFault). IsKind a (is_passed line) (is_load line) (is_bye line)) (sym is)
     (request_kind sheet line)
 
--- a refused line asked something
-fault_asks : (sheet : Option SheetView) (line : List ℕ) (fault : RequestFault)
-    → Err fault ≡ request_of sheet line → IsAsk line
-fault_asks sheet line fault is =
-    let k = kind sheet line (Err fault) is in record { passed = k.0; load = k.1; bye = k.2 }
+-- a line that is answered from a record, or refused, asks something
+asks : (sheet : Option SheetView) (line : List ℕ) (answer : Result Request RequestFault) → IsOther answer
+    → answer ≡ request_of sheet line → IsAsk line
+asks sheet line answer other is =
+    let none = (asks_other sheet line).0 (subst IsOther is other) in
+    record { passed = none.0; load = none.1; bye = none.2 }
 
--- and so did a CUT
-cut_asks : (sheet : Option SheetView) (line : List ℕ) (a b : ℕ)
-    → Ok (Cut a b) ≡ request_of sheet line → IsAsk line
-cut_asks sheet line a b is =
-    let k = kind sheet line (Ok (Cut a b)) is in record { passed = k.0; load = k.1; bye = k.2 }
-
--- and a NET
-net_asks : (sheet : Option SheetView) (line : List ℕ) → Ok Net ≡ request_of sheet line → IsAsk line
-net_asks sheet line is =
-    let k = kind sheet line (Ok Net) is in record { passed = k.0; load = k.1; bye = k.2 }
+-- what is replied to is answered from a record, or refused
+replied_other : (seen : Option RecordView) (version : ℕ) (answer : Result Request RequestFault) (reply : List ℕ)
+    → RepliesTo seen version answer reply → IsOther answer
+replied_other seen version (Err fault) reply replies = tt
+replied_other None version (Ok request) reply replies = absurd replies
+replied_other (Some seen) version (Ok (Cut a b)) reply replies = tt
+replied_other (Some seen) version (Ok Tree) reply replies = tt
+replied_other (Some seen) version (Ok Run) reply replies = tt
+replied_other (Some seen) version (Ok Net) reply replies = tt
+replied_other (Some seen) version (Ok request) reply replies = absurd replies.0
 
 module _ (alone : Bool) (old new : List RecordView) (own own2 : ℕ) (few : length new ≤ 256)
     (looks : Looks alone old new) (kept : own2 ≡ own) (version : ℕ) (seen : Option RecordView)
@@ -56,11 +57,11 @@ module _ (alone : Bool) (old new : List RecordView) (own own2 : ℕ) (few : leng
   ask_gives : IsAsk line → gives None line ≡ Ask line ∷ []
   ask_gives ask = rw (ask.passed, ask.load) refl
 
-  -- an ask is answered by a reply to what it asks for
-  answered : (answer : Result Request RequestFault) (reply : List ℕ) → IsAsk line → Holds intake None
+  -- a line that is answered from a record, or refused, was taken
+  pub asked_taken : (answer : Result Request RequestFault) (reply : List ℕ) → Holds intake None
       → answer ≡ request_of (sheet_in seen) line → RepliesTo seen version answer reply
       → IsTaken alone old own new own2 None intake line reply
-  answered answer reply ask holds is replies = record {
+  asked_taken answer reply holds is replies = record {
     quiet = λ none passed load. ask.bye;
     given = subst (λ (items : List Item). Gives alone old own items reply new own2) (sym (ask_gives ask))
         (Gives-one alone old new own own2 (Ask line) reply 0 (omega (arith, kept))
@@ -70,6 +71,9 @@ module _ (alone : Bool) (old new : List RecordView) (own own2 : ℕ) (few : leng
     holds = subst (λ (text : Option (List (List ℕ))). Holds intake text) (sym next_is) holds;
   }
     where
+      ask : IsAsk line
+      ask = asks (sheet_in seen) line answer (replied_other seen version answer reply replies) is
+
       next_is : next_text None line ≡ None
       next_is = rw (ask.passed, ask.load) refl
 
@@ -79,24 +83,6 @@ module _ (alone : Bool) (old new : List RecordView) (own own2 : ℕ) (few : leng
       told : IsReply (record_at new (length new)) (length new) line reply
       told = subst (λ (n : ℕ). IsReply (record_at new n) n line reply) last
           (subst (λ (r : Option RecordView). IsReply r version line reply) shows from_seen)
-
-  -- a refused line is answered by the refusal
-  pub refused_taken : (fault : RequestFault) (reply : List ℕ) → Holds intake None
-      → Err fault ≡ request_of (sheet_in seen) line → reply ≡ refused_text version (fault_number fault) None
-      → IsTaken alone old own new own2 None intake line reply
-  refused_taken fault reply holds is text =
-      answered (Err fault) reply (fault_asks (sheet_in seen) line fault is) holds is text
-
-  -- a CUT is answered by a cut of its routers
-  pub cut_taken : (a b : ℕ) (reply : List ℕ) → Holds intake None → Ok (Cut a b) ≡ request_of (sheet_in seen) line
-      → RepliesTo seen version (Ok (Cut a b)) reply → IsTaken alone old own new own2 None intake line reply
-  cut_taken a b reply holds is replies =
-      answered (Ok (Cut a b)) reply (cut_asks (sheet_in seen) line a b is) holds is replies
-
-  -- a NET is answered by the network
-  pub net_taken : (reply : List ℕ) → Holds intake None → Ok Net ≡ request_of (sheet_in seen) line
-      → RepliesTo seen version (Ok Net) reply → IsTaken alone old own new own2 None intake line reply
-  net_taken reply holds is replies = answered (Ok Net) reply (net_asks (sheet_in seen) line is) holds is replies
 
   -- a line that is passed over gets no reply
   pub passed_taken : Holds intake None → Ok Nothing ≡ request_of (sheet_in seen) line

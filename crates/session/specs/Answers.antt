@@ -7,13 +7,14 @@ use Rattle.network_text.specs.Faults.{kind_number}
 use Rattle.network_text.specs.Sheets.{SheetView}
 use Rattle.network_text.specs.Texts.{verdict_of}
 use Rattle.network_text.specs.declared.fault.TextFault.{TextFault}
-use Rattle.query_lang.specs.Requests.{request_of, fault_number}
-use Rattle.query_lang.specs.Replies.{loaded_text, bye_text, refused_text, cut_text, net_text}
+use Rattle.query_lang.specs.Requests.{IsReported, request_of, fault_number}
+use Rattle.query_lang.specs.Replies.{loaded_text, bye_text, refused_text, cut_text}
+use Rattle.query_lang.specs.Reports.{reply_text}
 use Rattle.query_lang.specs.declared.request.Request.{Request}
-use Rattle.query_lang.specs.declared.request.Request.TheVariants.{Cut, Net}
+use Rattle.query_lang.specs.declared.request.Request.TheVariants.{Cut}
 use Rattle.query_lang.specs.declared.request.RequestFault.{RequestFault}
 use Rattle.text_forms.specs.Items.{Item, Ask, Load, Bye}
-use Rattle.tree_versions.specs.Records.{RecordView, record_at}
+use Rattle.tree_versions.specs.Records.{RecordView, record_at, tree_of}
 
 -- a reply that prints a least cut of routers a and b, whichever it is
 pub record IsCutReply (sheet : SheetView) (version a b : ℕ) (reply : List ℕ) : Type 0 where
@@ -23,11 +24,11 @@ pub record IsCutReply (sheet : SheetView) (version a b : ℕ) (reply : List ℕ)
   pub least : IsLeastCut sheet.net a b (set_of side) value
   pub text : reply ≡ cut_text version value sheet.names side
 
--- a reply from a record to what a request line asks for
+-- a reply from a record to what a request line asks for: a least cut, or what the record's network, tree or history is
 abbrev pub RepliesFrom : RecordView → ℕ → Request → List ℕ → Type 0
 RepliesFrom seen version (Cut a b) reply = IsCutReply seen.sheet version a b reply
-RepliesFrom seen version Net reply = reply ≡ net_text version seen.sheet
-RepliesFrom seen version request reply = ⊥
+RepliesFrom seen version request reply =
+    IsReported request × (reply ≡ reply_text version seen.sheet (tree_of seen) request)
 
 -- the reply to a request line: its refusal, or a reply from the record of the version
 abbrev pub RepliesTo : Option RecordView → ℕ → Result Request RequestFault → List ℕ → Type 0

@@ -1,5 +1,5 @@
 //! A session: its scratch, and the call that serves one peer.
-ghost use Rattle.std.specs.Prelude.{◌≡◌, ◌≤◌, ◌<◌};
+ghost use Rattle.std.specs.Prelude.{◌≡◌, ◌≤◌, ◌<◌, ◌^◌, ℕ, List, Some, length};
 ghost use Rattle.session.specs.Turns.{EndsAs};
 ghost use Rattle.wires.specs.Causes.{Rose};
 
@@ -58,6 +58,11 @@ pub fn serve_session<H: Shelf, P: Peer>(
         (P.written peer.new) (H.alone shelf.old) (H.seen shelf.old) (H.own shelf.old)
         (H.seen shelf.new) (H.own shelf.new) }
     ensures alone { H.alone shelf.new ≡ H.alone shelf.old }
+
+    // Where the peer tells that it has fewer than 2^30 bytes left, and never fails, all are answered.
+    ensures completes { (bytes : List ℕ) → P.left peer.old ≡ Some bytes → length bytes < 2 ^ 30
+        → (Rose (P.read_faults peer.old) (P.read_faults peer.new) → ⊥)
+        → (Rose (P.write_faults peer.old) (P.write_faults peer.new) → ⊥) → result ≡ SessionEnd.Done }
 
     // Each fault has its cause, and no count of faults falls.
     ensures read_fault { result ≡ SessionEnd.ReadFault → Rose (P.read_faults peer.old) (P.read_faults peer.new) }

@@ -6,7 +6,7 @@ ghost use Rattle.std.specs.Option.{option_copied};
 ghost use Rattle.std.specs.declared.option.Option.{Option};
 ghost use Rattle.network_text.specs.Texts.{verdict_of};
 ghost use Rattle.query_lang.specs.Replies.{loaded_text, refused_text};
-ghost use Rattle.query_lang.specs.Requests.{IsOf};
+ghost use Rattle.query_lang.specs.Requests.{IsOf, IsReported};
 ghost use Rattle.session.specs.Answers.{IsCutReply, IsTextRefusal, RepliesTo, sheet_in};
 ghost use Rattle.session.specs.Modes.{Closing, Loads};
 ghost use Rattle.session.specs.Taking.{HasRead, Holds, LineTaken, is_stale, lines_in};
@@ -19,23 +19,20 @@ use cut_model::{Network, NoMemory, Side};
 use dinic_flow::FlowDesk;
 use network_text::{Fed, Reader, Sheet, TextFault, TextKind};
 use query_lang::{
-    ReplyBuffer, Request, bye_reply, cut_reply, loaded_reply, net_reply, parse_request,
-    refusal_reply,
+    ReplyBuffer, Request, bye_reply, cut_reply, loaded_reply, parse_request, refusal_reply,
+    report_reply,
 };
 use std::alloc::Global;
 use std::mem;
 use std::sync::Arc;
 use text_forms::is_end;
-use tree_versions::{PublishFault, Record, Shelf};
+use tree_versions::{MOST_RECORDS, PublishFault, Record, Shelf};
 
 /// The most routers that a network has.
 const MOST_ROUTERS: u32 = 1024;
 
 /// The most links that a network has.
 const MOST_LINKS: u32 = 8192;
-
-/// The most records that a shelf holds.
-const MOST_RECORDS: u32 = 256;
 
 /// The refusal of a network where the records are as many as can be kept.
 const SHELF_FULL: u32 = 20;
@@ -201,13 +198,13 @@ impl State {
                 self.cut(version, seen, a, b);
                 Taken::Reply
             }
-            Ok(Request::Net) => {
-                self.tell_network(version, seen);
-                Taken::Reply
-            }
             Ok(Request::Bye) => {
                 bye_reply(&mut self.reply, version);
                 Taken::Bye
+            }
+            Ok(request) => {
+                self.report(version, seen, &request);
+                Taken::Reply
             }
             Err(fault) => {
                 self.refuse(version, fault.number(), None);
@@ -228,16 +225,18 @@ impl State {
         answer_cut(&mut self.desk, &mut self.reply, version, record, a, b);
     }
 
-    /// Makes the reply that tells the network of a record.
-    fn tell_network(&mut self, version: u32, seen: Option<&Record>)
-        requires of { IsOf (sheet_in (option_copied seen)) Request.Net }
-        ensures reply { RepliesTo (option_copied seen.entry) version (Ok Request.Net) self.new.reply }
+    /// Makes the reply that tells the network, the tree or the run of a record.
+    fn report(&mut self, version: u32, seen: Option<&Record>, request: &Request)
+        requires reported { IsReported request.now }
+        requires of { IsOf (sheet_in (option_copied seen)) request.now }
+        ensures reply { RepliesTo (option_copied seen.entry) version (Ok request.now) self.new.reply }
         ensures intake { self.new.intake ≡ self.old.intake }
     {
         let Some(record) = seen else {
             unreachable!();
         };
-        net_reply(&mut self.reply, version, record.sheet());
+        let sheet = record.sheet();
+        report_reply(&mut self.reply, version, sheet, record.finished(), request);
     }
 
     /// Takes a line of a text that is read.

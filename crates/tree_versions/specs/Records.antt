@@ -2,6 +2,7 @@
 use Rattle.std.specs.Prelude.{◌≡◌, ℕ, zero, suc, List, ◌++◌, slice_get, All, None}
 use Rattle.std.specs.declared.option.Option.{Option}
 use Rattle.network_text.specs.Sheets.{SheetView}
+use Rattle.tree_state.specs.Growing.{GrowingView}
 use Rattle.tree_state.specs.History.{IsComplete}
 use Rattle.tree_state.specs.declared.entry.Entry.{Entry}
 
@@ -9,6 +10,10 @@ use Rattle.tree_state.specs.declared.entry.Entry.{Entry}
 pub record RecordView : Type 0 where
   pub sheet : SheetView
   pub history : List Entry
+
+-- The tree of a record: that of its history over its own network.
+abbrev pub tree_of : RecordView → GrowingView
+tree_of seen = record { net = seen.sheet.net; history = seen.history }
 
 -- Each record holds a complete history of its own network.
 abbrev pub AreFinished : List RecordView → Type 0

@@ -10,4 +10,4 @@ mod solo;
 
 pub use record::Record;
 pub use shelf::{PublishFault, Shelf};
-pub use solo::SoloShelf;
+pub use solo::{MOST_RECORDS, SoloShelf};

@@ -56,7 +56,8 @@ impl Record {
         ensures history { result.now.history ≡ self.now.history }
         ensures complete { IsComplete self.now.sheet.net self.now.history }
     {
-        self.finished.net();
+        // The run is over the network of the sheet, and complete.
+        prove!(self.finished.net().routers() == self.sheet.net().routers());
         &self.finished
     }
 }

@@ -10,7 +10,7 @@ use std::alloc::Global;
 use std::sync::Arc;
 
 /// The most records that a shelf holds.
-const MOST_RECORDS: usize = 256;
+pub const MOST_RECORDS: u32 = 256;
 
 /// A shelf of one holder, which has seen all of it. Its memory is taken when it is made.
 #[derive(Drop)]
@@ -30,7 +30,7 @@ impl SoloShelf {
         ensures { IfOk result (λ shelf. views_of shelf.records.items ≡ []) }
     {
         Ok(SoloShelf {
-            records: Vec::with_capacity(alloc, MOST_RECORDS)?,
+            records: Vec::with_capacity(alloc, MOST_RECORDS as usize)?,
         })
     }
 
@@ -66,10 +66,11 @@ impl Shelf for SoloShelf {
     }
 
     fn publish(&mut self, new: Arc<Record>) -> Result<u32, PublishFault> {
-        if self.records.len() == MOST_RECORDS {
+        if self.records.len() == MOST_RECORDS as usize {
             return Err(PublishFault::Full);
         }
-        new.finished();
+        // The run of the new record is over its own network, and complete.
+        prove!(new.finished().net().routers() == new.sheet().net().routers());
         self.records.push_reserved(new);
         Ok(self.records.len() as u32)
     }

@@ -22,21 +22,40 @@ const TWO: &str = "LOAD\nlink a b 5\nEND\nCUT a b\nLOAD\nlink a b 2\nlink b c 9\
 const TWO_REPLIES: &str =
     "@1 LOADED routers 2 links 1\n@1 CUT 5 side a\n@2 LOADED routers 3 links 2\n@2 CUT 2 side a\n";
 
-/// Parallel links, a self link and an empty one.
-const PARALLEL: &str =
-    "LOAD\nlink a b 2\nlink a b 3\nlink a a 9\nlink b c 0\nlink b c 1\nEND\nCUT a b\nCUT a c\n";
+/// One router has a tree without an edge.
+const ONE: &str = "LOAD\nrouter a\nEND\nTREE\nRUN\n";
 
-const PARALLEL_REPLIES: &str = "@1 LOADED routers 3 links 5\n@1 CUT 5 side a\n@1 CUT 1 side a b\n";
+const ONE_REPLIES: &str = "@1 LOADED routers 1 links 0\n@1 TREE 0\n@1 RUN 0\n";
+
+/// Six routers, whose commits move routers, committed ones among them, and once take the place of the router above.
+const SIX: &str = "LOAD\nlink r0 r1 1\nlink r0 r2 7\nlink r1 r2 1\nlink r1 r3 3\nlink r1 r4 2\n\
+    link r2 r4 4\nlink r3 r4 1\nlink r3 r5 6\nlink r4 r5 2\nEND\nTREE\nRUN\n";
+
+const SIX_REPLIES: &str = "@1 LOADED routers 6 links 9\n\
+    @1 TREE 5\nr1 r4 7\nr2 r0 8\nr3 r1 6\nr4 r2 6\nr5 r3 8\n\
+    @1 RUN 5\nr1 r0 6\nr2 r0 8\nr3 r1 6\nr4 r1 7\nr5 r3 8\n";
+
+/// A ring: each router is cut off by two links.
+const RING: &str = "LOAD\nlink a b 1\nlink b c 1\nlink c d 1\nlink d a 1\nEND\nTREE\n";
+
+const RING_REPLIES: &str = "@1 LOADED routers 4 links 4\n@1 TREE 3\nb a 2\nc a 2\nd a 2\n";
+
+/// Parallel links, a self link and an empty one.
+const PARALLEL: &str = "LOAD\nlink a b 2\nlink a b 3\nlink a a 9\nlink b c 0\nlink b c 1\nEND\n\
+    TREE\nCUT a b\nCUT a c\n";
+
+const PARALLEL_REPLIES: &str = "@1 LOADED routers 3 links 5\n@1 TREE 2\nb a 5\nc b 1\n\
+    @1 CUT 5 side a\n@1 CUT 1 side a b\n";
 
 /// A router that no link reaches.
 const APART: &str = "LOAD\nlink a b 3\nrouter c\nEND\nCUT a c\n";
 
 const APART_REPLIES: &str = "@1 LOADED routers 3 links 1\n@1 CUT 0 side a b\n";
 
-/// The first faulty line of a text decides, and a word that is no request.
+/// The first faulty line of a text decides, and no network was published.
 const TWO_FAULTS: &str = "LOAD\nrouter a\nrouter b\nlink a b x\nrouter c\nlnk a\nEND\nTREE\n";
 
-const TWO_FAULTS_REPLIES: &str = "@0 NO 14 line 3\n@0 NO 1\n";
+const TWO_FAULTS_REPLIES: &str = "@0 NO 14 line 3\n@0 NO 6\n";
 
 /// A text that the input cuts off.
 const CUT_OFF: &str = "LOAD\nrouter a";
@@ -49,10 +68,12 @@ const RETURNS: &str = "LOAD\r\nlink a b 5\r\nEND\r\n\r\n# note\r\nCUT a b";
 const RETURNS_REPLIES: &str = "@1 LOADED routers 2 links 1\n@1 CUT 5 side a\n";
 
 /// Refusals before any network and after one, and the network told back.
-const REFUSALS: &str = "CUT a b\ncut a b\nCUT a\nNET\nNET x\nLOAD x\nBYE now\nLOAD\nEND\n\
+const REFUSALS: &str =
+    "CUT a b\ncut a b\nCUT a\nNET\nNET x\nTREE\nRUN x\nLOAD x\nBYE now\nLOAD\nEND\n\
     LOAD\nlink a b 5\nEND\nCUT a z\nCUT z z\nCUT a a\nNET\n";
 
-const REFUSALS_REPLIES: &str = "@0 NO 6\n@0 NO 1\n@0 NO 3\n@0 NO 6\n@0 NO 3\n@0 NO 3\n@0 NO 3\n\
+const REFUSALS_REPLIES: &str =
+    "@0 NO 6\n@0 NO 1\n@0 NO 3\n@0 NO 6\n@0 NO 3\n@0 NO 6\n@0 NO 3\n@0 NO 3\n@0 NO 3\n\
     @0 NO 18 line 1\n@1 LOADED routers 2 links 1\n@1 NO 4\n@1 NO 4\n@1 NO 5\n\
     @1 NET 4\nrouter a\nrouter b\nlink a b 5\nEND\n";
 
@@ -101,6 +122,9 @@ fn replies_are_the_same_in_whatever_pieces_the_input_comes(rt: HostRuntime) -> R
     let table = [
         (FIRST, FIRST_REPLIES, 1),
         (TWO, TWO_REPLIES, 2),
+        (ONE, ONE_REPLIES, 1),
+        (SIX, SIX_REPLIES, 1),
+        (RING, RING_REPLIES, 1),
         (PARALLEL, PARALLEL_REPLIES, 1),
         (APART, APART_REPLIES, 1),
         (TWO_FAULTS, TWO_FAULTS_REPLIES, 0),

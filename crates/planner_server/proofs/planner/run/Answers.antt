@@ -1,4 +1,4 @@
-use Rattle.std.proofs.Common.{◌∙◌, ap}
+use Rattle.std.proofs.Common.{◌∙◌, ap, inl}
 use Rattle.planner_server.specs.Commands.{status_of}
 use Rattle.planner_server.proofs.Deciding.{none_taken, always_long}
 use Rattle.planner_server.proofs.planner.run.Goals as goal
@@ -16,3 +16,7 @@ returns-clause-always_too_long g c = λ taken rest before after many unmet quiet
     c.from.ensures ∙ ap status_of (always_long _ _ _ _ _ _ _ taken rest c.serve_both-end.ensures.ends before after many
     unmet quiet
     (λ failed. sound (c.serve_both-end.ensures.write_fault failed)))
+
+pub returns-clause-completes : goal.returns-clause-completes
+returns-clause-completes g c = λ bytes words is few reads puts.
+    inl (c.from.ensures ∙ ap status_of (c.serve_both-end.ensures.completes bytes is few reads puts))

@@ -1,7 +1,8 @@
-use Rattle.std.proofs.Common.{None, sym, subst}
+use Rattle.std.proofs.Common.{None, Ok, Err, sym, subst}
+use Rattle.query_lang.specs.declared.request.Request.TheVariants.{Cut}
 use Rattle.session.specs.Taking.{Holds}
 use Rattle.session.specs.declared.intake.Intake.{Intake}
-use Rattle.session.proofs.Requesting.{passed_taken, load_taken, cut_taken, net_taken, bye_taken, refused_taken}
+use Rattle.session.proofs.Requesting.{passed_taken, load_taken, bye_taken, asked_taken}
 use Rattle.session.proofs.state.State.take_request.Goals as goal
 
 pub returns-in-Ok-Nothing-clause-taken : goal.returns-in-Ok-Nothing-clause-taken
@@ -22,33 +23,38 @@ returns-in-Ok-Load-clause-taken g c =
 
 pub returns-in-Ok-Cut-clause-taken : goal.returns-in-Ok-Cut-clause-taken
 returns-in-Ok-Cut-clause-taken g c =
-    cut_taken _ _ _ _ _ (g.H.Shelf.few c.look-version.new.self) c.look-version.ensures.seen c.look-version.ensures.own
+    asked_taken _ _ _ _ _ (g.H.Shelf.few c.look-version.new.self) c.look-version.ensures.seen
+    c.look-version.ensures.own
     c.look-version.result _
-    c.look-version.ensures.count c.seen_record-seen.ensures _ c.args.line.now c.in-Ok-Cut.a c.in-Ok-Cut.b
+    c.look-version.ensures.count c.seen_record-seen.ensures _ c.args.line.now (Ok (Cut c.in-Ok-Cut.a c.in-Ok-Cut.b))
     c.cut.new.self.reply
     (subst (λ (i : Intake). Holds i None) (sym c.cut.ensures.intake) c.requires.between)
     (rw (c.in-Ok-Cut.field-0-is, c.sheet_of.ensures) at c.in-Ok-Cut.ensures.value) c.cut.ensures.reply
 
-pub returns-in-Ok-Net-clause-taken : goal.returns-in-Ok-Net-clause-taken
-returns-in-Ok-Net-clause-taken g c =
-    net_taken _ _ _ _ _ (g.H.Shelf.few c.look-version.new.self) c.look-version.ensures.seen c.look-version.ensures.own
+pub returns-in-Ok-clause-taken : goal.returns-in-Ok-clause-taken
+returns-in-Ok-clause-taken g c =
+    asked_taken _ _ _ _ _ (g.H.Shelf.few c.look-version.new.self) c.look-version.ensures.seen
+    c.look-version.ensures.own
     c.look-version.result _
-    c.look-version.ensures.count c.seen_record-seen.ensures _ c.args.line.now c.tell_network.new.self.reply
-    (subst (λ (i : Intake). Holds i None) (sym c.tell_network.ensures.intake) c.requires.between)
-    (rw (c.in-Ok-Net.field-0-is, c.sheet_of.ensures) at c.in-Ok-Net.ensures.value) c.tell_network.ensures.reply
+    c.look-version.ensures.count c.seen_record-seen.ensures _ c.args.line.now (Ok c.in-Ok.request)
+    c.report.new.self.reply
+    (subst (λ (i : Intake). Holds i None) (sym c.report.ensures.intake) c.requires.between)
+    (rw c.sheet_of.ensures at c.in-Ok.ensures.value) c.report.ensures.reply
 
 pub returns-in-Ok-Bye-clause-taken : goal.returns-in-Ok-Bye-clause-taken
 returns-in-Ok-Bye-clause-taken g c =
-    bye_taken _ _ _ _ _ (g.H.Shelf.few c.look-version.new.self) c.look-version.ensures.seen c.look-version.ensures.own
+    bye_taken _ _ _ _ _ (g.H.Shelf.few c.look-version.new.self) c.look-version.ensures.seen
+    c.look-version.ensures.own
     c.look-version.result _
     c.look-version.ensures.count c.seen_record-seen.ensures c.args.self.now.intake c.args.line.now _
     (rw (c.in-Ok-Bye.field-0-is, c.sheet_of.ensures) at c.in-Ok-Bye.ensures.value) c.bye_reply.ensures
 
 pub returns-in-Err-clause-taken : goal.returns-in-Err-clause-taken
 returns-in-Err-clause-taken g c =
-    refused_taken _ _ _ _ _ (g.H.Shelf.few c.look-version.new.self) c.look-version.ensures.seen
+    asked_taken _ _ _ _ _ (g.H.Shelf.few c.look-version.new.self) c.look-version.ensures.seen
     c.look-version.ensures.own
     c.look-version.result _
-    c.look-version.ensures.count c.seen_record-seen.ensures _ c.args.line.now c.in-Err.fault c.refuse.new.self.reply
+    c.look-version.ensures.count c.seen_record-seen.ensures _ c.args.line.now (Err c.in-Err.fault)
+    c.refuse.new.self.reply
     (subst (λ (i : Intake). Holds i None) (sym c.refuse.ensures.intake) c.requires.between)
     (rw c.sheet_of.ensures at c.in-Err.ensures.value) (rw c.number.ensures at c.refuse.ensures.reply)
