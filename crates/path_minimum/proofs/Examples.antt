@@ -6,7 +6,6 @@ use Rattle.tree_state.specs.Tables.{Table, some_up, below}
 use Rattle.tree_state.specs.Paths.{parts}
 use Rattle.path_minimum.specs.Ladders.{depth_in}
 use Rattle.path_minimum.specs.Paths.{size_below}
-use Rattle.path_minimum.specs.Walks.{climb}
 
 -- Router 2 hangs from the root 0, 4 from 2, 1 from 4, 3 from 1, and 5 from 3.
 up : Table
@@ -64,9 +63,3 @@ forked_second = refl
 forked_sizes : map (size_below 6 forked) (3 ∷ 1 ∷ 2 ∷ 5 ∷ []) ≡ 1 ∷ 3 ∷ 2 ∷ 1 ∷ []
 unfolding forked some_up number_in
 forked_sizes = refl
-
--- ---- steps up
-
-three_steps_up : climb up 3 5 ≡ 4
-unfolding up
-three_steps_up = refl

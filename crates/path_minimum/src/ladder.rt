@@ -1,6 +1,7 @@
 //! How deep each router lies.
-ghost use Rattle.std.specs.Prelude.{◌≡◌, ℕ, ◌<◌, true, length, slice_index, IfOk};
+ghost use Rattle.std.specs.Prelude.{◌≡◌, ℕ, ◌<◌, ◌≤◌, true, length, slice_index, IfOk};
 ghost use Rattle.cut_model.specs.Cuts.{set_of};
+ghost use Rattle.tree_state.specs.Growing.{HoldsCutTree};
 ghost use Rattle.path_minimum.specs.Ladders.{depth_of, IsLadderOf};
 ghost use Rattle.path_minimum.specs.Walks.{AreKnown};
 
@@ -66,6 +67,8 @@ fn note_depths(finished: &Finished, depths: &mut [u32])
 
 /// The depth of a router, by that of the first known router of its way up.
 fn depth_by_known(finished: &Finished, router: u32, known: &Side, depths: &[u32]) -> u32
+    requires tree { HoldsCutTree finished.now }
+    requires few { finished.now.net.routers ≤ 1024 }
     requires router { router < finished.now.net.routers }
     requires known { AreKnown finished.now known.now depths.now }
     ensures { result ≡ depth_of finished.now router }
@@ -81,6 +84,7 @@ fn depth_by_known(finished: &Finished, router: u32, known: &Side, depths: &[u32]
 
 /// Notes the depths of the routers of a way up as far as they weren't known.
 fn note_way(finished: &Finished, router: u32, depth: u32, known: &mut Side, depths: &mut [u32])
+    requires tree { HoldsCutTree finished.now }
     requires router { router < finished.now.net.routers }
     requires depth { depth ≡ depth_of finished.now router }
     requires known { AreKnown finished.now known.old depths.old }

@@ -1,10 +1,11 @@
 //! The least edge of a path.
-ghost use Rattle.std.specs.Prelude.{◌≡◌, ◌≢◌, ◌<◌};
+ghost use Rattle.std.specs.Prelude.{◌≡◌, ◌≢◌, ◌⊎◌, ◌<◌, ◌≤◌, length, slice_index};
 ghost use Rattle.cut_model.specs.Cuts.{IsLeastCut};
 ghost use Rattle.cut_model.specs.Terminals.{IsTerminal};
 ghost use Rattle.tree_state.specs.Growing.{up_of, width_of};
 ghost use Rattle.tree_state.specs.Paths.{IsLeastEdge, side_for};
 ghost use Rattle.path_minimum.specs.Ladders.{IsLadderOf};
+ghost use Rattle.path_minimum.specs.Walks.{edge_of, ComesFirst};
 
 use crate::ladder::Ladder;
 use cut_model::Steps;
@@ -19,6 +20,52 @@ pub struct PathLeast {
     pub child: u32,
     /// What the cut costs that the edge stands for.
     pub width: u64,
+}
+
+/// The edge above a router.
+#[inline]
+pub(crate) fn edge_above(finished: &Finished, child: u32) -> PathLeast
+    requires { child < finished.now.net.routers }
+    ensures { result ≡ edge_of finished.now child }
+{
+    PathLeast {
+        child,
+        width: finished.width(child),
+    }
+}
+
+/// Of two edges that of the smaller width, and of two as wide ones that whose lower end has the smaller
+/// number.
+#[inline]
+pub(crate) fn lesser(one: PathLeast, other: PathLeast) -> PathLeast
+    ensures either { (result ≡ one) ⊎ (result ≡ other) }
+    ensures before_one { ComesFirst result one }
+    ensures before_other { ComesFirst result other }
+{
+    if one.width < other.width {
+        one
+    } else if other.width < one.width {
+        other
+    } else if one.child < other.child {
+        one
+    } else {
+        other
+    }
+}
+
+/// Two routers, the deeper one first.
+#[inline]
+fn deeper_first(ladder: &Ladder, x: u32, y: u32) -> (u32, u32)
+    requires x { x < length ladder.now }
+    requires y { y < length ladder.now }
+    ensures either { (result ≡ record { 0 = x; 1 = y }) ⊎ (result ≡ record { 0 = y; 1 = x }) }
+    ensures order { slice_index ladder.now result.1 ≤ slice_index ladder.now result.0 }
+{
+    if ladder.depth(x) < ladder.depth(y) {
+        (y, x)
+    } else {
+        (x, y)
+    }
 }
 
 /// The least edge of the path between two terminals: that of the smallest width, and of these that whose
@@ -42,7 +89,19 @@ pub fn least_on_path<L: Ledger>(
     ensures within { result.child < finished.now.net.routers }
     ensures steps { steps.new ≡ steps.old }
 {
-    unreachable!()
+    // (its contract tells that the tree is a cut tree)
+    finished.net();
+    let (deeper, _) = deeper_first(ladder, a, b);
+    let mut least = edge_above(finished, deeper);
+    let mut x = a;
+    let mut y = b;
+    while x != y {
+        let (low, high) = deeper_first(ladder, x, y);
+        least = lesser(least, edge_above(finished, low));
+        x = finished.up(low);
+        y = high;
+    }
+    least
 }
 
 /// As `least_on_path`, with a counter of its own from a blank.
