@@ -8,3 +8,4 @@ pub mod SizesBelow
 pub mod Orders
 pub mod Marks
 pub mod Counted
+pub mod OnePath

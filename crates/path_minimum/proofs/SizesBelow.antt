@@ -84,15 +84,15 @@ size_below-grows net t ups c c_is not_root up_not_root =
     (tree_below-up net t c not_root c_is) (below-self net t (t.up c) (t.up_is c c_is))
 
 -- no number rises in an empty list
-rises-none : IsStrictlyIncreasing []
+pub rises-none : IsStrictlyIncreasing []
 rises-none k low = absurd (omega arith)
 
 -- nor where there is one alone
-rises-one : (x : ℕ) → IsStrictlyIncreasing (x ∷ [])
+pub rises-one : (x : ℕ) → IsStrictlyIncreasing (x ∷ [])
 rises-one x k low = absurd (omega arith)
 
 -- a smaller number before one that rises
-rises-more : (x y : ℕ) (xs : List ℕ) → x < y → IsStrictlyIncreasing (y ∷ xs) → IsStrictlyIncreasing (x ∷ y ∷ xs)
+pub rises-more : (x y : ℕ) (xs : List ℕ) → x < y → IsStrictlyIncreasing (y ∷ xs) → IsStrictlyIncreasing (x ∷ y ∷ xs)
 rises-more x y xs smaller rises zero low = smaller
 rises-more x y xs smaller rises (suc k) low =
     let e : suc k + 1 ≡ suc (k + 1) = omega arith in rw e (rises k (omega arith))

@@ -6,6 +6,7 @@
 #![tactic(auto)]
 
 mod ladder;
+pub mod laws;
 mod least_edge;
 mod ordered_path;
 mod path_room;
