@@ -5,5 +5,7 @@
 #![tactic(auto)]
 
 mod completion;
+#[cfg(test)]
+mod tests;
 
 pub use completion::complete;

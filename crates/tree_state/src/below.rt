@@ -62,10 +62,24 @@ fn decide_way(
     }
 }
 
-/// The routers below one: those on whose way up it is, itself among them. Below the root are all.
-/// It goes up from each router to the first one that is decided, twice, and then all of that way is
-/// decided; so the time is proportional to the number of routers, however deep the tree is. It takes
-/// no memory.
+/// Decides all routers. It walks twice up from each router to the first one that is decided, and then
+/// all of that way is; so the time is proportional to the number of routers.
+fn decide_all(finished: &Finished, decided: &mut Side, inside: &mut Side)
+    requires tree { HoldsCutTree finished.now }
+    requires marked { IsMarked finished.now decided.old inside.old }
+    ensures marked { IsMarked finished.now decided.new inside.new }
+    ensures all { (r : ℕ) → r < finished.now.net.routers → set_of decided.new r ≡ true }
+    ensures decided { (c : ℕ) → IsDecidedFor finished.now c decided.old inside.old
+        → IsDecidedFor finished.now c decided.new inside.new }
+{
+    for router in 0..decided.size() {
+        let is_below = is_below(finished, decided, inside, router);
+        decide_way(finished, decided, inside, router, is_below);
+    }
+}
+
+/// The routers below one: those on whose way up it is, itself among them. Below the root are all. The
+/// time is proportional to the number of routers, however deep the tree is. It takes no memory.
 pub fn side_below(finished: &Finished, child: u32) -> Side
     requires { child < finished.now.net.routers }
     ensures { ShowsSet finished.now.net.routers
@@ -76,9 +90,6 @@ pub fn side_below(finished: &Finished, child: u32) -> Side
     let mut inside = Side::empty(routers);
     decide(&mut decided, &mut inside, child, true);
     decided.put(finished.root());
-    for router in 0..routers {
-        let is_below = is_below(finished, &decided, &inside, router);
-        decide_way(finished, &mut decided, &mut inside, router, is_below);
-    }
+    decide_all(finished, &mut decided, &mut inside);
     inside
 }

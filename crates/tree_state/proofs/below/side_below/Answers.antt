@@ -1,11 +1,11 @@
-use Rattle.std.proofs.Common.{◌≡◌, ◌∙◌, inl, inr, ap, arith}
-use Rattle.std.proofs.lemmas.Bool.{cases_eq}
+use Rattle.std.proofs.Common.{◌≡◌, ◌∙◌, ap}
 use Rattle.cut_model.specs.Net.{Net}
-use Rattle.tree_state.proofs.Decided.{marked_start, decided_start}
+use Rattle.tree_state.specs.Below.{IsDecidedFor}
+use Rattle.tree_state.proofs.Decided.{marked_start, decided_start, decided_shows}
 use Rattle.tree_state.proofs.below.side_below.Goals as goal
 
-pub loop-router-init : goal.loop-router-init
-loop-router-init c =
+pub decide_all-requires-clause-marked : goal.decide_all-requires-clause-marked
+decide_all-requires-clause-marked c =
     let routers : c.routers-routers.result ≡ c.args.finished.now.net.routers =
     c.routers-routers.ensures.value ∙ ap (λ (net : Net). net.routers) (c.deref.ensures ∙ c.net.ensures.value) in
     rw (
@@ -17,19 +17,22 @@ loop-router-init c =
       routers,
       c.root.ensures.value,
     )
-    (record {
-      marked = marked_start c.args.finished.now c.net.ensures.tree c.args.child;
-      right = decided_start c.args.finished.now c.net.ensures.tree c.args.child c.requires;
-      done = λ r low. absurd (omega arith);
-    })
+    (marked_start c.args.finished.now c.net.ensures.tree c.args.child)
 
-pub loop-router-preserved : goal.loop-router-preserved
-loop-router-preserved c = record {
-  marked = c.decide_way.ensures.marked;
-  right = c.decide_way.ensures.decided c.args.child c.loop-router.invariant.right
-      (c.is_below-is_below.ensures c.args.child c.loop-router.invariant.right);
-  done = λ r low. elim (cases_eq r c.loop-router.router) [
-    | inl here ↦ rw here c.decide_way.ensures.router
-    | inr ne ↦ c.decide_way.ensures.kept r (c.loop-router.invariant.done r (omega arith))
-  ];
-}
+pub returns : goal.returns
+returns c =
+    let routers : c.routers-routers.result ≡ c.args.finished.now.net.routers =
+    c.routers-routers.ensures.value ∙ ap (λ (net : Net). net.routers) (c.deref.ensures ∙ c.net.ensures.value) in
+    let start : IsDecidedFor c.args.finished.now c.args.child c.put.new.self c.decide.new.inside =
+    rw (
+      c.put.ensures,
+      c.decide.ensures.decided,
+      c.decide.ensures.inside,
+      c.empty-decided.ensures,
+      c.empty-inside.ensures,
+      routers,
+      c.root.ensures.value,
+    )
+    (decided_start c.args.finished.now c.net.ensures.tree c.args.child c.requires) in
+    decided_shows c.args.finished.now c.args.child c.decide_all.new.decided c.decide_all.new.inside
+    c.decide_all.ensures.marked (c.decide_all.ensures.decided c.args.child start) c.decide_all.ensures.all
