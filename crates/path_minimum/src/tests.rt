@@ -1,5 +1,7 @@
 //! Answers from a tree of six routers, worked by hand.
-ghost use Rattle.std.specs.Prelude.{◌≡◌, ◌≤◌, [], length, IfOk, OnOk};
+ghost use Rattle.std.specs.Prelude.{◌≡◌, ◌≤◌, [], length, IsTrue, OnOk};
+ghost use Rattle.cut_model.specs.Terminals.{IsTerminal};
+ghost use Rattle.path_minimum.specs.Ladders.{IsLadderOf};
 
 use crate::{Ladder, PathLeast, PathRoom, least_on_path_uncounted, path, side_holding, weakest};
 use commit_rule::complete;
@@ -32,6 +34,7 @@ fn commit(rt: &impl Abort, grow: &mut Growing, router: u32, members: &[u32]) -> 
 {
     let net = grow.net().clone()?;
     assert!(rt; router < net.routers());
+    assert!(rt; net.is_terminal(router));
     assert!(rt; router != net.root());
     assert!(rt; !grow.is_done(router));
     let neighbour = grow.neighbour(router);
@@ -56,22 +59,53 @@ fn row_of_six(rt: &impl Abort, alloc: Global) -> Result<Finished, Fail> {
     Ok(complete(grow).ok().ok_or("a router wasn't committed")?)
 }
 
+/// Whether a number is that of a terminal.
+fn has_terminal(tree: &Finished, router: u32) -> bool
+    ensures { IsTrue result → IsTerminal tree.now.net router }
+{
+    let net = tree.net();
+    router < net.routers() && net.is_terminal(router)
+}
+
+/// Sees that the path between two terminals is this one.
+fn expect_path(
+    rt: &impl Abort,
+    tree: &Finished,
+    room: &mut PathRoom,
+    a: u32,
+    b: u32,
+    children: &[u32],
+) {
+    assert!(rt; has_terminal(tree, a));
+    assert!(rt; has_terminal(tree, b));
+    assert!(rt; a != b);
+    path(tree, a, b, room);
+    assert_eq!(rt; room.children(), children);
+}
+
+/// Sees which edge of the path between two terminals is the least.
+fn expect_least(rt: &impl Abort, tree: &Finished, ladder: &Ladder, a: u32, b: u32, least: PathLeast)
+    requires { IsLadderOf tree.now ladder.now }
+{
+    assert!(rt; has_terminal(tree, a));
+    assert!(rt; has_terminal(tree, b));
+    assert!(rt; a != b);
+    assert_eq!(rt; least_on_path_uncounted(ladder, tree, a, b), least);
+}
+
 #[test]
 fn answers_from_a_row_of_six(rt: HostRuntime) -> Result<(), Fail> {
     let tree = row_of_six(&rt, rt.alloc())?;
     let ladder = Ladder::make(rt.alloc(), &tree)?;
     let mut room = PathRoom::make(rt.alloc())?;
+    expect_path(&rt, &tree, &mut room, 0, 5, &[2, 4, 1, 3, 5]);
+    expect_path(&rt, &tree, &mut room, 5, 0, &[5, 3, 1, 4, 2]);
+    expect_path(&rt, &tree, &mut room, 1, 2, &[1, 4]);
+    let one = PathLeast { child: 1, width: 0 };
+    expect_least(&rt, &tree, &ladder, 2, 3, one);
     assert!(&rt; tree.net().routers() == 6);
-    path(&tree, 0, 5, &mut room);
-    assert_eq!(rt; room.children(), [2, 4, 1, 3, 5].as_slice());
-    path(&tree, 5, 0, &mut room);
-    assert_eq!(rt; room.children(), [5, 3, 1, 4, 2].as_slice());
-    path(&tree, 1, 2, &mut room);
-    assert_eq!(rt; room.children(), [1, 4].as_slice());
-    let least = least_on_path_uncounted(&ladder, &tree, 2, 3);
-    assert_eq!(rt; least, PathLeast { child: 1, width: 0 });
     assert_eq!(rt; side_holding(&tree, 3, 5).count(), 2);
     assert_eq!(rt; side_holding(&tree, 3, 0).count(), 4);
-    assert_eq!(rt; weakest(&tree), Some(PathLeast { child: 1, width: 0 }));
+    assert_eq!(rt; weakest(&tree), Some(one));
     Ok(())
 }
