@@ -1,0 +1,11 @@
+pub mod Examples
+pub mod Depths
+pub mod Known
+pub mod PathSteps
+pub mod Passing
+pub mod Ways
+pub mod SizesBelow
+pub mod Orders
+pub mod Marks
+pub mod Counted
+pub mod OnePath

@@ -1,0 +1,4 @@
+pub mod Ladders
+pub mod Paths
+pub mod Walks
+pub mod Laws
