@@ -1,0 +1,18 @@
+use Rattle.std.proofs.Common.{arith}
+use Rattle.path_minimum.proofs.Known.{known-root}
+use Rattle.path_minimum.proofs.ladder.note_depths.Goals as goal
+
+pub loop-router-init : goal.loop-router-init
+loop-router-init c = record {
+  known =
+      rw (
+        c.put.ensures,
+        c.empty-known.ensures,
+        c.routers-routers.ensures.value,
+        c.deref.ensures,
+        c.net.ensures.value,
+        c.root-root.ensures.value,
+      )
+      (known-root c.args.finished.now c.args.depths.now c.net.ensures.tree (rw (← c.root-root.ensures.value) c.root-root.ensures.within) c.requires);
+  before = λ r low. absurd (omega arith);
+}

@@ -1,0 +1,19 @@
+//! The sides of an edge.
+ghost use Rattle.std.specs.Prelude.{◌<◌};
+ghost use Rattle.tree_state.specs.Growing.{up_of};
+ghost use Rattle.tree_state.specs.Paths.{side_for};
+ghost use Rattle.tree_state.specs.Shown.{ShowsSet};
+
+use cut_model::Side;
+use tree_state::Finished;
+
+/// The side of the edge above `child` that holds `a`: what is below `child`, or all other routers. The
+/// time is proportional to the number of routers.
+pub fn side_holding(finished: &Finished, child: u32, a: u32) -> Side
+    requires child { child < finished.now.net.routers }
+    requires a { a < finished.now.net.routers }
+    ensures { ShowsSet finished.now.net.routers
+        (side_for finished.now.net.routers (up_of finished.now) a child) result }
+{
+    unreachable!()
+}

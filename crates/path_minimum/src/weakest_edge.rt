@@ -1,0 +1,24 @@
+//! The weakest edge of a tree.
+ghost use Rattle.std.specs.Prelude.{◌≡◌, ◌↔◌, ◌<◌, IsNone, IfSome};
+ghost use Rattle.cut_model.specs.Terminals.{terminal_count, root_of};
+ghost use Rattle.tree_state.specs.Growing.{up_of, width_of};
+ghost use Rattle.tree_state.specs.Paths.{IsWeakest, IsGlobalCut};
+ghost use Rattle.tree_state.specs.Tables.{below};
+
+use crate::least_edge::PathLeast;
+use tree_state::Finished;
+
+/// The weakest edge of the tree: that of the smallest width, and of these that whose lower end has the
+/// smallest number. What is below it is a least cut of the whole network (Gomory and Hu, 1961). `None`
+/// where there is one terminal alone. It looks at each router once.
+pub fn weakest(finished: &Finished) -> Option<PathLeast>
+    ensures none { IsNone result ↔ (terminal_count finished.now.net ≡ 1) }
+    ensures edge { IfSome result (λ edge.
+        IsWeakest finished.now.net (root_of finished.now.net) (width_of finished.now) edge.child) }
+    ensures width { IfSome result (λ edge. edge.width ≡ width_of finished.now edge.child) }
+    ensures least { IfSome result (λ edge. IsGlobalCut finished.now.net
+        (below finished.now.net.routers (up_of finished.now) edge.child) edge.width) }
+    ensures within { IfSome result (λ edge. edge.child < finished.now.net.routers) }
+{
+    unreachable!()
+}
