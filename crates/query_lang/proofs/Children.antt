@@ -10,8 +10,7 @@ pub concat-filter : {A : Type 0} (test : A → Bool) (line : A → List ℕ) (xs
 concat-filter test line [] = refl
 concat-filter {A = A} test line (x ∷ xs) = elim (test x) as
     (λ (is : Bool). concat (map line (cond is (x ∷ filter test xs) (filter test xs)))
-    ≡ cond is (line x) [] ++ concat (map (λ (y : A). cond (test y) (line y) []) xs))
-    [
+    ≡ cond is (line x) [] ++ concat (map (λ (y : A). cond (test y) (line y) []) xs)) [
       | true ↦ ap (λ (behind : List ℕ). line x ++ behind) (concat-filter test line xs)
       | false ↦ concat-filter test line xs
     ]

@@ -31,7 +31,7 @@ entries_after net room before (entry ∷ rest) legal after =
     All-cons (IsWithin net) entry rest here (entries_after net room (before ++ entry ∷ []) rest next after.1)
 
 -- The empty history is legal.
-no_entry : (net : Net) → IsLegal net []
+pub no_entry : (net : Net) → IsLegal net []
 unfolding IsLegalAfter
 no_entry net = tt
 

@@ -6,3 +6,4 @@ pub mod Lengths
 pub mod NameTexts
 pub mod RequestKinds
 pub mod SameNames
+pub mod SmallTrees

@@ -11,7 +11,7 @@ use Rattle.query_lang.specs.Requests.{words_ask}
 use Rattle.query_lang.specs.declared.request.Request.{Request}
 use Rattle.query_lang.specs.declared.request.Request.TheVariants.{Nothing, Load, Cut, Tree, Run, Net, Bye}
 use Rattle.query_lang.specs.declared.request.RequestFault.{RequestFault}
-use Rattle.query_lang.specs.declared.request.RequestFault.TheVariants.{UnknownWord, LineTooLong, WrongCount}
+use Rattle.query_lang.specs.declared.request.RequestFault.TheVariants.{UnknownWord, LineTooLong}
 use Rattle.query_lang.specs.declared.request.RequestFault.TheVariants.{SameRouter}
 use Rattle.text_forms.specs.Lines.{is_long}
 use Rattle.text_forms.specs.Words.{is_passed, is_load, is_bye, is_lone, is_remark, line_words}

@@ -1,13 +1,50 @@
 //! The replies, byte for byte as a client reads them, with ample memory.
+ghost use Rattle.std.specs.Prelude.{◌≡◌, [], ◌∷◌, IfOk};
+ghost use Rattle.std.specs.Arc.{arc_value};
+
 use crate::{
     ReplyBuffer, Request, RequestFault, bye_reply, cut_reply, loaded_reply, parse_request,
     refusal_reply, report_reply, write_bye, write_cut, write_head, write_loaded, write_refusal,
     write_reply,
 };
-use cut_model::{Link, Network, Side};
+use cut_model::{LeastCut, Link, Network, NoMemory, Side};
 use network_text::{Fed, Reader};
+use std::alloc::Global;
+use std::sync::Arc;
 use std::test::Fail;
+use tree_state::{Finished, Growing};
 use wires::MemorySink;
+
+/// The tree of three routers in a row. The last one is committed first, with the first router alone
+/// on the other side, and the middle one then takes its place.
+fn chain_tree(alloc: Global, net: &Arc<Network>) -> Result<Finished, NoMemory>
+    requires { arc_value net.now ≡ record {
+      routers = 3;
+      links = record { a = 0; b = 1; cap = 5 } ∷ record { a = 1; b = 2; cap = 7 } ∷ [];
+    } }
+    ensures { IfOk result (λ f. f.net ≡ arc_value net.now) }
+{
+    let mut grow = Growing::make(alloc, net.clone()?)?;
+    let mut side = Side::empty(3);
+    side.put(1);
+    side.put(2);
+    grow.apply(&LeastCut::hold(net, 2, 0, side, 5));
+    let mut other = Side::empty(3);
+    other.put(0);
+    other.put(1);
+    grow.apply(&LeastCut::hold(net, 1, 2, other, 7));
+    Ok(Finished::hold(grow))
+}
+
+/// The tree of one router.
+fn lone_tree(alloc: Global, net: &Arc<Network>) -> Result<Finished, NoMemory>
+    requires { (arc_value net.now).routers ≡ 1 }
+    ensures { IfOk result (λ f. f.net ≡ arc_value net.now) }
+{
+    prove!(net.routers() == 1);
+    let grow = Growing::make(alloc, net.clone()?)?;
+    Ok(Finished::hold(grow))
+}
 
 #[test]
 fn replies_without_a_sheet(rt: HostRuntime) -> Result<(), Fail> {
@@ -36,6 +73,8 @@ fn requests_and_replies_of_a_network(rt: HostRuntime) -> Result<(), Fail> {
         parse_request(b"CUT a c", Some(&sheet)),
         Ok(Request::Cut(0, 2))
     );
+    assert_eq!(rt; parse_request(b"TREE", Some(&sheet)), Ok(Request::Tree));
+    assert_eq!(rt; parse_request(b"RUN", Some(&sheet)), Ok(Request::Run));
     assert_eq!(rt; parse_request(b"NET", Some(&sheet)), Ok(Request::Net));
     assert_eq!(rt; sheet.net().routers(), 3);
     let mut side = Side::empty(3);
@@ -44,9 +83,45 @@ fn requests_and_replies_of_a_network(rt: HostRuntime) -> Result<(), Fail> {
     let mut buffer = ReplyBuffer::make(rt.alloc())?;
     cut_reply(&mut buffer, 1, 5, &sheet, &side);
     assert_eq!(rt; buffer.bytes(), b"@1 CUT 5 side b c\n".as_slice());
-    net_reply(&mut buffer, 1, &sheet);
-    let lines = "@1 NET 6\nrouter a\nrouter b\nrouter c\nlink a b 5\nlink b c 7\nEND\n";
+    Ok(())
+}
+
+#[test]
+fn reports_of_a_chain(rt: HostRuntime) -> Result<(), Fail> {
+    let mut reader = Reader::begin(rt.alloc())?;
+    assert_eq!(rt; reader.line(b"link a b 5"), Fed::More);
+    assert_eq!(rt; reader.line(b"link b c 7"), Fed::More);
+    assert_eq!(rt; reader.line(b"END"), Fed::Ended);
+    let sheet = reader.close()?;
+    let links = vec![in rt.alloc(); Link { a: 0, b: 1, cap: 5 }, Link { a: 1, b: 2, cap: 7 }]?;
+    let chain = Network::make(3, links).map_err(|_| "refused")?;
+    assert!(rt; sheet.net().same_as(&chain));
+    let finished = chain_tree(rt.alloc(), sheet.net())?;
+    let mut buffer = ReplyBuffer::make(rt.alloc())?;
+    report_reply(&mut buffer, 1, &sheet, &finished, &Request::Tree);
+    assert_eq!(rt; buffer.bytes(), b"@1 TREE 2\nb a 5\nc b 7\n".as_slice());
+    report_reply(&mut buffer, 2, &sheet, &finished, &Request::Run);
+    assert_eq!(rt; buffer.bytes(), b"@2 RUN 2\nc a 5\nb c 7\n".as_slice());
+    report_reply(&mut buffer, 3, &sheet, &finished, &Request::Net);
+    let lines = "@3 NET 6\nrouter a\nrouter b\nrouter c\nlink a b 5\nlink b c 7\nEND\n";
     assert_eq!(rt; buffer.bytes(), lines.as_bytes());
+    Ok(())
+}
+
+#[test]
+fn reports_of_one_router(rt: HostRuntime) -> Result<(), Fail> {
+    let mut reader = Reader::begin(rt.alloc())?;
+    assert_eq!(rt; reader.line(b"router a"), Fed::More);
+    assert_eq!(rt; reader.line(b"END"), Fed::Ended);
+    let sheet = reader.close()?;
+    assert_eq!(rt; sheet.net().routers(), 1);
+    let finished = lone_tree(rt.alloc(), sheet.net())?;
+    let mut sink = MemorySink::make(rt.alloc(), 100, Vec::new(rt.alloc()))?;
+    write_reply(1, &sheet, &finished, &Request::Tree, &mut sink)?;
+    write_reply(1, &sheet, &finished, &Request::Run, &mut sink)?;
+    write_reply(1, &sheet, &finished, &Request::Net, &mut sink)?;
+    let replies = "@1 TREE 0\n@1 RUN 0\n@1 NET 2\nrouter a\nEND\n";
+    assert_eq!(rt; sink.written(), replies.as_bytes());
     Ok(())
 }
 
@@ -65,7 +140,7 @@ fn replies_put_into_a_sink(rt: HostRuntime) -> Result<(), Fail> {
 }
 
 #[test]
-fn replies_of_a_network_put_into_a_sink(rt: HostRuntime) -> Result<(), Fail> {
+fn a_cut_put_into_a_sink(rt: HostRuntime) -> Result<(), Fail> {
     let mut reader = Reader::begin(rt.alloc())?;
     assert_eq!(rt; reader.line(b"link a b 5"), Fed::More);
     assert_eq!(rt; reader.line(b"END"), Fed::Ended);
@@ -75,9 +150,7 @@ fn replies_of_a_network_put_into_a_sink(rt: HostRuntime) -> Result<(), Fail> {
     side.put(0);
     let mut sink = MemorySink::make(rt.alloc(), 100, Vec::new(rt.alloc()))?;
     write_cut(1, 5, &sheet, &side, &mut sink)?;
-    write_reply(2, &sheet, &Request::Net, &mut sink)?;
-    let replies = "@1 CUT 5 side a\n@2 NET 4\nrouter a\nrouter b\nlink a b 5\nEND\n";
-    assert_eq!(rt; sink.written(), replies.as_bytes());
+    assert_eq!(rt; sink.written(), b"@1 CUT 5 side a\n".as_slice());
     Ok(())
 }
 

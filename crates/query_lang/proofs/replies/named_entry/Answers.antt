@@ -1,6 +1,6 @@
-use Rattle.std.proofs.Common.{◌<◌, ap, arith, subst, sym, length}
+use Rattle.std.proofs.Common.{ap, arith, subst, sym}
 use Rattle.cut_model.specs.Net.{Net, IsInLimits}
-use Rattle.query_lang.proofs.Entries.{IsWithin, entry_within}
+use Rattle.query_lang.proofs.Entries.{entry_within}
 use Rattle.query_lang.proofs.replies.named_entry.Goals as goal
 
 pub returns : goal.returns

@@ -1,4 +1,4 @@
-use Rattle.std.proofs.Common.{◌≡◌, ◌<◌, length, take, arith, take_all}
+use Rattle.std.proofs.Common.{◌≡◌, take, arith, take_all}
 use Rattle.std.proofs.lemmas.Option.{get_or_from_slice_get, slice_get_within}
 use Rattle.network_text.proofs.PutLines.{puts_more, puts_stopped}
 use Rattle.query_lang.specs.Trees.{commit_line}
