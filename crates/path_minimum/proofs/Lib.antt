@@ -3,3 +3,8 @@ pub mod Depths
 pub mod Known
 pub mod PathSteps
 pub mod Passing
+pub mod Ways
+pub mod SizesBelow
+pub mod Orders
+pub mod Marks
+pub mod Counted

@@ -1,5 +1,6 @@
 -- What walks up a tree leave.
-use Rattle.std.specs.Prelude.{◌≡◌, ℕ, ◌-◌, ◌<◌, ◌≤◌, ◌&&◌, true, Bool, List, length, slice_index}
+use Rattle.std.specs.Prelude.{◌≡◌, ◌≢◌, ℕ, ◌-◌, ◌<◌, ◌≤◌, ◌&&◌, true, Bool, List, length, slice_index, Some, None}
+use Rattle.std.specs.declared.option.Option.{Option}
 use Rattle.cut_model.specs.Net.{Net}
 use Rattle.cut_model.specs.Cuts.{set_of}
 use Rattle.cut_model.specs.Terminals.{IsTerminal, root_of}
@@ -32,3 +33,16 @@ pub record IsMeeting (net : Net) (up : Table) (a b m : ℕ) : Type 0 where
 -- The routers of the way from one router up to another, without the last.
 unfoldable pub way_between : GrowingView → ℕ → ℕ → List ℕ
 way_between tree from to = way_up (up_of tree) (depth_of tree from - depth_of tree to) from
+
+-- An edge is the weakest of those above the terminals below `end`, but for the root.
+pub record IsWeakestOf (tree : GrowingView) (end : ℕ) (edge : PathLeast) : Type 0 where
+  pub edge_is : edge ≡ edge_of tree edge.child
+  pub terminal : IsTerminal tree.net edge.child
+  pub not_root : edge.child ≢ root_of tree.net
+  pub least :
+      (c : ℕ) → c < end → IsTerminal tree.net c → c ≢ root_of tree.net → ComesFirst edge (edge_of tree c)
+
+-- The weakest of the edges above the terminals below `end`, but for the root; none where there is none.
+abbrev pub IsWeakestBelow : GrowingView → ℕ → Option PathLeast → Type 0
+IsWeakestBelow tree end None = (c : ℕ) → c < end → IsTerminal tree.net c → c ≡ root_of tree.net
+IsWeakestBelow tree end (Some edge) = IsWeakestOf tree end edge

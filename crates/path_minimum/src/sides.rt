@@ -5,7 +5,8 @@ ghost use Rattle.tree_state.specs.Paths.{side_for};
 ghost use Rattle.tree_state.specs.Shown.{ShowsSet};
 
 use cut_model::Side;
-use tree_state::Finished;
+use cut_sides::turn_over;
+use tree_state::{Finished, side_below};
 
 /// The side of the edge above `child` that holds `a`: what is below `child`, or all other routers. The
 /// time is proportional to the number of routers.
@@ -15,5 +16,9 @@ pub fn side_holding(finished: &Finished, child: u32, a: u32) -> Side
     ensures { ShowsSet finished.now.net.routers
         (side_for finished.now.net.routers (up_of finished.now) a child) result }
 {
-    unreachable!()
+    let mut side = side_below(finished, child);
+    if !side.has(a) {
+        turn_over(&mut side);
+    }
+    side
 }

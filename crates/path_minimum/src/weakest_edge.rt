@@ -1,12 +1,32 @@
 //! The weakest edge of a tree.
-ghost use Rattle.std.specs.Prelude.{◌≡◌, ◌↔◌, ◌<◌, IsNone, IfSome};
+ghost use Rattle.std.specs.Prelude.{◌≡◌, ◌↔◌, ◌+◌, ◌<◌, IsNone, IfSome};
 ghost use Rattle.cut_model.specs.Terminals.{terminal_count, root_of};
-ghost use Rattle.tree_state.specs.Growing.{up_of, width_of};
+ghost use Rattle.tree_state.specs.Growing.{up_of, width_of, HoldsCutTree};
 ghost use Rattle.tree_state.specs.Paths.{IsWeakest, IsGlobalCut};
 ghost use Rattle.tree_state.specs.Tables.{below};
+ghost use Rattle.path_minimum.specs.Walks.{IsWeakestBelow};
 
-use crate::least_edge::PathLeast;
+use crate::least_edge::{PathLeast, edge_above, lesser};
 use tree_state::Finished;
+
+/// The weakest of the edges above the routers up to this one, by that of those before it.
+fn weaker(finished: &Finished, child: u32, before: Option<PathLeast>) -> Option<PathLeast>
+    requires child { child < finished.now.net.routers }
+    requires before { IsWeakestBelow finished.now child before }
+    ensures { IsWeakestBelow finished.now (child + 1) result }
+{
+    if !finished.net().is_terminal(child) {
+        return before;
+    }
+    if child == finished.root() {
+        return before;
+    }
+    let edge = edge_above(finished, child);
+    match before {
+        None => Some(edge),
+        Some(least) => Some(lesser(least, edge)),
+    }
+}
 
 /// The weakest edge of the tree: that of the smallest width, and of these that whose lower end has the
 /// smallest number. What is below it is a least cut of the whole network (Gomory and Hu, 1961). `None`
@@ -20,5 +40,9 @@ pub fn weakest(finished: &Finished) -> Option<PathLeast>
         (below finished.now.net.routers (up_of finished.now) edge.child) edge.width) }
     ensures within { IfSome result (λ edge. edge.child < finished.now.net.routers) }
 {
-    unreachable!()
+    let mut least = None;
+    for child in 0..finished.net().routers() {
+        least = weaker(finished, child, least);
+    }
+    least
 }

@@ -55,3 +55,13 @@ all_but_zero = refl
 below_four : map (below 6 (tables 0 history).up 4) six ≡ false ∷ true ∷ false ∷ true ∷ true ∷ true ∷ []
 unfolding tables up_after history six some_up
 below_four = refl
+
+-- below the root are all
+below_zero : map (below 6 (tables 0 history).up 0) six ≡ true ∷ true ∷ true ∷ true ∷ true ∷ true ∷ []
+unfolding tables up_after history six some_up
+below_zero = refl
+
+-- below a router from which nothing hangs is it alone
+below_five : map (below 6 (tables 0 history).up 5) six ≡ false ∷ false ∷ false ∷ false ∷ false ∷ true ∷ []
+unfolding tables up_after history six some_up
+below_five = refl

@@ -24,5 +24,7 @@ pub mod CutTrees
 pub mod Smallest
 pub mod LeastEdges
 pub mod WeakestEdges
+pub mod Shown
+pub mod Decided
 pub mod Examples
 pub mod PathExamples

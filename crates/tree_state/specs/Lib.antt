@@ -6,3 +6,4 @@ pub mod Shown
 pub mod Paths
 pub mod Laws
 pub mod Growing
+pub mod Below

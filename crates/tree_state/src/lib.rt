@@ -6,12 +6,14 @@
 //! cuts, a complete one a cut tree, and the edges of a cut tree answer for all pairs of terminals.
 #![tactic(auto)]
 
+mod below;
 mod entry;
 mod finished;
 mod growing;
 pub mod laws;
 mod tables;
 
+pub use below::side_below;
 pub use entry::Entry;
 pub use finished::Finished;
 pub use growing::Growing;

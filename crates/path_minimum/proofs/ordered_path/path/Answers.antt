@@ -1,0 +1,66 @@
+use Rattle.std.proofs.Common.{◌≡◌, ℕ, ◌<◌, ◌++◌, List, [], length, take, drop, reverse, sym, ◌∙◌, ap, subst, arith}
+use Rattle.std.specs.Prelude.{All}
+use Rattle.std.proofs.lemmas.List.{take_at}
+use Rattle.tree_state.specs.Growing.{up_of}
+use Rattle.path_minimum.specs.Ladders.{depth_of}
+use Rattle.path_minimum.specs.Paths.{IsOrderedPath}
+use Rattle.path_minimum.specs.Walks.{way_between}
+use Rattle.path_minimum.proofs.Depths.{tree_in, depth_of-lt}
+use Rattle.path_minimum.proofs.Ways.{meeting-above, meeting-turned, length-way_between}
+use Rattle.path_minimum.proofs.Orders.{path-ordered, ways-short, length-path, path-within, turned-left}
+use Rattle.path_minimum.proofs.ordered_path.path.Goals as goal
+
+pub push_way-requires-clause-above : goal.push_way-requires-clause-above
+push_way-requires-clause-above c =
+    meeting-above c.args.finished.now.net (tree_in c.args.finished.now c.meeting_of-meeting.ensures.tree) c.args.a
+    c.args.b c.meeting_of-meeting.result c.meeting_of-meeting.ensures.meeting
+
+pub push_way-requires-clause-room : goal.push_way-requires-clause-room
+push_way-requires-clause-room c =
+    omega (arith, c.clear.ensures.len, depth_of-lt c.args.finished.now c.meeting_of-meeting.ensures.tree c.args.a)
+
+pub push_way-requires-2-clause-above : goal.push_way-requires-2-clause-above
+push_way-requires-2-clause-above c =
+    meeting-above c.args.finished.now.net (tree_in c.args.finished.now c.meeting_of-meeting.ensures.tree) c.args.b
+    c.args.a c.meeting_of-meeting.result
+    (meeting-turned c.args.finished.now.net (up_of c.args.finished.now) c.args.a c.args.b c.meeting_of-meeting.result
+    c.meeting_of-meeting.ensures.meeting)
+
+pub push_way-requires-2-clause-room : goal.push_way-requires-2-clause-room
+push_way-requires-2-clause-room c =
+    let tree = c.args.finished.now in
+    let m = c.meeting_of-meeting.result in
+    let items : c.push_way.new.children.items ≡ way_between tree c.args.a m =
+    c.push_way.ensures.way ∙ ap (λ (front : List ℕ). front ++ way_between tree c.args.a m) c.clear.ensures.items in
+    omega (
+      arith,
+      c.push_way.new.children.ok.0,
+      ap length items,
+      length-way_between tree c.args.a m,
+      ways-short tree c.meeting_of-meeting.ensures.tree c.args.a c.args.b m c.meeting_of-meeting.ensures.meeting,
+      depth_of-lt tree c.meeting_of-meeting.ensures.tree c.args.b,
+    )
+
+pub returns : goal.returns
+returns c =
+    let tree = c.args.finished.now in
+    let m = c.meeting_of-meeting.result in
+    let holds = c.meeting_of-meeting.ensures.tree in
+    let left : take c.push_way-2.new.children.len
+    (c.turn_behind.new.children ++ drop (length c.turn_behind.new.children) c.push_way-2.new.children.items)
+    ≡ way_between tree c.args.a m ++ reverse (way_between tree c.args.b m) =
+    turned-left (way_between tree c.args.a m) (way_between tree c.args.b m) c.push_way.new.children.items
+    c.push_way-2.new.children.items c.deref_mut.result.now c.turn_behind.new.children
+    (drop (length c.turn_behind.new.children) c.push_way-2.new.children.items) c.len-front.result
+    c.push_way-2.new.children.len
+    (c.push_way.ensures.way ∙ ap (λ (front : List ℕ). front ++ way_between tree c.args.a m) c.clear.ensures.items)
+    c.push_way-2.ensures.way c.deref_mut.ensures.value (sym c.push_way.new.children.ok.0 ∙ sym c.len-front.ensures)
+    c.turn_behind.ensures (c.turn_behind.auto.children ∙ c.deref_mut.ensures.len) in
+    let path : IsOrderedPath tree.net (up_of tree) c.args.a c.args.b
+    (way_between tree c.args.a m ++ reverse (way_between tree c.args.b m)) =
+    path-ordered tree holds c.args.a c.args.b m c.requires.a c.requires.b c.meeting_of-meeting.ensures.meeting in
+    rw left (record {
+      path = path;
+      few = length-path tree holds c.args.a c.args.b m c.meeting_of-meeting.ensures.meeting;
+      within = path-within tree.net (up_of tree) c.args.a c.args.b _ path;
+    })
