@@ -4,6 +4,7 @@ pub mod Examples
 pub mod Fits
 pub mod Lengths
 pub mod NameTexts
+pub mod PathLengths
 pub mod RequestKinds
 pub mod SameNames
 pub mod SmallTrees

@@ -88,17 +88,20 @@ request_of sheet line =
 abbrev pub AreEnds : SheetView → ℕ → ℕ → Type 0
 AreEnds sheet a b = (a ≢ b) × IsTerminal sheet.net a × IsTerminal sheet.net b
 
+-- The same of the network that there is.
+abbrev pub HasEnds : Option SheetView → ℕ → ℕ → Type 0
+HasEnds None a b = ⊥
+HasEnds (Some sheet) a b = AreEnds sheet a b
+
 -- What a request asks of the network that there is: CUT and PATH two different terminals of it, TREE, RUN and NET that
 -- there is one, and WEAKEST two terminals or more.
 abbrev pub IsOf : Option SheetView → Request → Type 0
-IsOf None (Cut a b) = ⊥
-IsOf None (Path a b) = ⊥
+IsOf sheet (Cut a b) = HasEnds sheet a b
+IsOf sheet (Path a b) = HasEnds sheet a b
 IsOf None Tree = ⊥
 IsOf None Run = ⊥
 IsOf None Net = ⊥
 IsOf None Weakest = ⊥
-IsOf (Some sheet) (Cut a b) = AreEnds sheet a b
-IsOf (Some sheet) (Path a b) = AreEnds sheet a b
 IsOf (Some sheet) Weakest = 2 ≤ terminal_count sheet.net
 IsOf sheet _ = Unit {0}
 
