@@ -1,4 +1,5 @@
 pub mod Children
+pub mod CutReports
 pub mod Entries
 pub mod Examples
 pub mod Fits

@@ -1,6 +1,6 @@
 -- A path has few edges.
 use Rattle.std.proofs.Common.{◌≡◌, ℕ, zero, suc, ◌+◌, ◌*◌, ◌<◌, ◌≤◌, List, [], ◌∷◌, All, ap, arith, length, map}
-use Rattle.std.proofs.Common.{length-append}
+use Rattle.std.proofs.Common.{add-one, length-append}
 use Rattle.std.proofs.lemmas.List.{length-map, length-reverse}
 use Rattle.std.proofs.lemmas.List.Elements.{All-get_or, All-map}
 use Rattle.std.specs.Prelude.{reverse, slice_index}
@@ -14,7 +14,9 @@ use Rattle.tree_state.specs.Tables.{Table, below}
 place_below : (xs : List ℕ) → IsStrictlyIncreasing xs → (k : ℕ) → k < length xs → k ≤ slice_index xs k
 place_below xs grows zero within = omega arith
 place_below xs grows (suc k) within =
-    let before = place_below xs grows k (omega arith) in omega (arith, before, grows k (omega arith))
+    let before = place_below xs grows k (omega arith) in
+    let step = rw add-one at (grows k (omega arith)) in
+    omega (arith, before, step)
 
 -- So such a list of numbers up to n has at most one more.
 few_below : (xs : List ℕ) (n : ℕ) → IsStrictlyIncreasing xs → All (λ x. x ≤ n) xs → length xs ≤ n + 1
@@ -31,7 +33,7 @@ few_by_size : (n : ℕ) (up : Table) (routers : List ℕ) → IsStrictlyIncreasi
     → length routers ≤ n + 1
 few_by_size n up routers grows =
     let low = All-map (λ x. x ≤ n) (size_below n up) routers (λ k d within. number_in-le (below n up _) n) in
-    omega (arith, length-map (size_below n up) routers, few_below (map (size_below n up) routers) n grows low)
+    omega (arith, length-map routers (size_below n up), few_below (map (size_below n up) routers) n grows low)
 
 -- A path has at most twice as many edges as its network has routers, and two.
 pub length-path : (net : Net) (up : Table) (a b : ℕ) (children : List ℕ) → IsOrderedPath net up a b children

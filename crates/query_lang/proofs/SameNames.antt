@@ -1,6 +1,6 @@
 -- The two routers of a request are the same exactly where their names are.
 use Rattle.std.proofs.Common.{◌≡◌, ◌↔◌, ℕ, List, [], Bool, true, false, None, Some, Ok, Err, get_or, refl, sym, ap}
-use Rattle.std.proofs.Common.{◌∙◌, ◌==◌, subst, IsSome, if◌then◌else◌}
+use Rattle.std.proofs.Common.{◌∙◌, ◌==◌, subst, IsSome, Result, if◌then◌else◌}
 use Rattle.std.proofs.lemmas.Bool.{eq-eqb, eqb-true}
 use Rattle.std.proofs.lemmas.List.Quantifiers.{position-Some}
 use Rattle.std.proofs.lemmas.Slice.Eq.{bytes_eq-Decides}
@@ -8,6 +8,7 @@ use Rattle.std.specs.Str.{bytes_eq}
 use Rattle.std.specs.declared.option.Option.{Option}
 use Rattle.network_text.specs.Sheets.{SheetView, number_of}
 use Rattle.query_lang.specs.Requests.{ends_between, ends_named}
+use Rattle.query_lang.specs.declared.request.RequestFault.{RequestFault}
 use Rattle.query_lang.specs.declared.request.RequestFault.TheVariants.{SameRouter}
 
 -- A router has one name.
@@ -26,7 +27,7 @@ same_name names first second None other is also refused = absurd (cc)
 same_name names first second (Some a) None is also refused = absurd (cc)
 same_name names first second (Some a) (Some b) is also refused = chosen (a == b) refl refused
   where
-    chosen : (same : Bool) → (a == b) ≡ same → (if same then Err SameRouter else Ok (a, b)) ≡ Err SameRouter
+    chosen : (same : Bool) → (a == b) ≡ same → if◌then◌else◌ {A = Result (ℕ × ℕ) RequestFault} same (Err SameRouter) (Ok (a, b)) ≡ Err SameRouter
         → IsSome (Some a) × (first ≡ second)
     chosen true equal refused = (refl, one_name names first second a is (also ∙ ap Some (sym (eqb-true a b equal))))
     chosen false equal refused = absurd (cc)
