@@ -1,9 +1,8 @@
 -- The weakest edge of all, and that there is none just where there is one terminal.
-use Rattle.std.proofs.Common.{◌≡◌, ◌≢◌, inl, inr, ℕ, suc, ◌+◌, ◌<◌, ◌≤◌, Bool, true, false, Option, Some, None}
+use Rattle.std.proofs.Common.{◌≡◌, ◌≢◌, inl, inr, ℕ, suc, ◌<◌, ◌≤◌, true, false, Option, Some, None}
 use Rattle.std.proofs.Common.{sym, ◌∙◌, ap, subst, arith, refl}
 use Rattle.std.specs.Prelude.{IsNone, IfSome}
 use Rattle.std.proofs.lemmas.Bool.{cases_Bool, cases_eq, false≢true}
-use Rattle.cut_model.specs.Net.{Net}
 use Rattle.cut_model.specs.Cuts.{RouterSet}
 use Rattle.cut_model.specs.Terminals.{IsTerminal, is_terminal, number_in, terminal_count, root_of}
 use Rattle.cut_model.proofs.Counting.{with_number, with_number-same, with_number-other, number_in-none, number_in-new}

@@ -1,5 +1,5 @@
 -- The depths of a tree: each router but the root is one deeper than the router above it.
-use Rattle.std.proofs.Common.{◌≡◌, ◌≢◌, inl, inr, ℕ, zero, suc, ◌+◌, ◌<◌, ◌≤◌, Bool, true, false, ◌&&◌, ◌||◌}
+use Rattle.std.proofs.Common.{◌≡◌, ◌≢◌, inl, inr, ℕ, zero, suc, ◌<◌, ◌≤◌, Bool, false, ◌&&◌, ◌||◌}
 use Rattle.std.proofs.Common.{not, sym, ◌∙◌, ap, refl, arith}
 use Rattle.std.specs.Prelude.{◌==◌}
 use Rattle.std.proofs.lemmas.Bool.{cases_Bool, cases_eq, eq-eqb, ne_eqb}
@@ -9,9 +9,8 @@ use Rattle.cut_model.specs.Terminals.{IsTerminal, is_terminal, number_in, root_o
 use Rattle.cut_model.proofs.Counting.{with_number, number_in-none, number_in-lt, number_in-new}
 use Rattle.cut_model.proofs.Crossing.{same_sets}
 use Rattle.cut_model.proofs.Terminals.{terminal-lt}
-use Rattle.tree_state.specs.Tables.{Table, below, some_up}
+use Rattle.tree_state.specs.Tables.{Table, below}
 use Rattle.tree_state.specs.Growing.{GrowingView, up_of, HoldsCutTree}
-use Rattle.tree_state.specs.Trees.{IsCutTree}
 use Rattle.tree_state.proofs.Forest.{some_up-suc}
 use Rattle.tree_state.proofs.Trees.{Tree, tree_of, tree-longer, tree_below-root, tree_below_is, tree_below-up}
 use Rattle.path_minimum.specs.Ladders.{depth_in, depth_of}

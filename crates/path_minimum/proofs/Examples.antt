@@ -1,19 +1,20 @@
 -- Two trees of six routers: depths, paths in their order, and least edges, by computing.
-use Rattle.std.proofs.Common.{◌≡◌, ℕ, zero, suc, ◌<◌, ◌≤◌, Bool, true, false, not, ◌&&◌, ◌||◌, List, [], ◌∷◌, map, reverse}
+use Rattle.std.proofs.Common.{◌≡◌, ℕ, zero, suc, ◌<◌, ◌≤◌, Bool, true, not, ◌&&◌, ◌||◌}
+use Rattle.std.proofs.Common.{List, [], ◌∷◌, map}
 use Rattle.std.proofs.Common.{inl, inr, refl, sym, ◌∙◌, ap, subst, arith, lit<}
-use Rattle.std.specs.Prelude.{◌↔◌, ◌==◌, Contains, nat_lt, slice_index}
+use Rattle.std.specs.Prelude.{◌↔◌, Contains, nat_lt, slice_index}
 use Rattle.std.specs.List.{list_all}
 use Rattle.std.specs.List.Sorted.{IsStrictlyIncreasing}
 use Rattle.std.proofs.lemmas.Bool.{cases_Bool, cases_eq, and_parts, false≢true, ne_eqb, ltb-true}
 use Rattle.std.proofs.lemmas.Bool.Decides.{nat_tests}
 use Rattle.cut_model.specs.Cuts.{differ}
 use Rattle.cut_model.specs.Net.{Net}
-use Rattle.cut_model.specs.Terminals.{IsTerminal, number_in}
+use Rattle.cut_model.specs.Terminals.{number_in}
 use Rattle.cut_model.proofs.Terminals.{all_terminals, terminal-lt}
 use Rattle.tree_state.specs.Tables.{Table, some_up, below}
 use Rattle.tree_state.specs.Paths.{parts, IsOnPath, IsLeastEdge}
 use Rattle.path_minimum.specs.Ladders.{depth_in}
-use Rattle.path_minimum.specs.Paths.{size_below, IsOnPathAbove, IsOrderedPath}
+use Rattle.path_minimum.specs.Paths.{IsOnPathAbove, IsOrderedPath}
 use Rattle.path_minimum.proofs.Orders.{among-contained, contains-among}
 use Rattle.path_minimum.proofs.SizesBelow.{rises-none, rises-one, rises-more}
 use Rattle.path_minimum.proofs.Ways.{among}

@@ -1,5 +1,6 @@
 -- Which depths are known while they are noted.
-use Rattle.std.proofs.Common.{◌≡◌, inl, inr, suc, ℕ, ◌<◌, true, false, Bool, List, length, slice_index, ◌∙◌, sym, ap, arith, refl}
+use Rattle.std.proofs.Common.{◌≡◌, inl, inr, suc, ℕ, ◌<◌, true, false, Bool, List, length, slice_index}
+use Rattle.std.proofs.Common.{◌∙◌, sym, ap, arith}
 use Rattle.std.specs.Prelude.{replicate}
 use Rattle.std.proofs.Math.ListN.{set}
 use Rattle.std.proofs.lemmas.List.{length-set, get_or-set_same, get_or-set_other, length-replicate, get_or-replicate}

@@ -52,7 +52,8 @@ marked-all tree holds marks router router_is size before = record {
         (get_or-set_same marks root true false (omega (arith, size, terminal-lt tree.net root t.root_is))
         ∙ sym (t.meets router router_is))
     | inr other ↦ get_or-set_other marks root c true false other
-        ∙ sym (before c low other ∙ rw (tree_below-root tree.net t c other) (grind (arith, cases_Bool (set_of marks c))))
+        ∙ sym (before c low other
+        ∙ rw (tree_below-root tree.net t c other) (grind (arith, cases_Bool (set_of marks c))))
   ];
 }
   where

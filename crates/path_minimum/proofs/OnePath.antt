@@ -1,6 +1,6 @@
 -- Two terminals have one ordered path: lists of the same numbers along which a size rises are equal.
-use Rattle.std.proofs.Common.{◌≡◌, ◌≢◌, inl, inr, ℕ, zero, suc, ◌+◌, ◌<◌, Bool, true, false, ◌||◌, List, [], ◌∷◌, ◌++◌}
-use Rattle.std.proofs.Common.{length, map, reverse, sym, ◌∙◌, ap, subst, arith, refl}
+use Rattle.std.proofs.Common.{◌≡◌, inl, inr, ℕ, suc, ◌+◌, ◌<◌, true, List, [], ◌∷◌, ◌++◌}
+use Rattle.std.proofs.Common.{map, reverse, sym, ◌∙◌, ap, subst, arith, refl}
 use Rattle.std.specs.Prelude.{◌==◌, ◌↔◌, Contains}
 use Rattle.std.specs.List.Sorted.{IsStrictlyIncreasing}
 use Rattle.std.proofs.lemmas.Bool.{cases_Bool, cases_eq, false≢true, eq-eqb, ne_eqb}
@@ -76,6 +76,21 @@ same-list f (x ∷ xs) (y ∷ ys) xs_rise ys_rise forth back =
     (λ c inside. same-rest f x y xs ys e xs_rise c inside (forth c (rest-inside x xs c inside)))
     (λ c inside. same-rest f y x ys xs (sym e) ys_rise c inside (back c (rest-inside y ys c inside)))))
 
+-- two lists of the numbers with a property, along which a size rises, are equal
+same-numbers : (f : ℕ → ℕ) (P : ℕ → Type 0) (xs ys : List ℕ) → ((c : ℕ) → Contains xs c ↔ P c)
+    → ((c : ℕ) → Contains ys c ↔ P c) → IsStrictlyIncreasing (map f xs) → IsStrictlyIncreasing (map f ys) → xs ≡ ys
+same-numbers f P xs ys xs_are ys_are xs_rise ys_rise = same-list f xs ys xs_rise ys_rise
+    (λ c inside. among-contained ys c ((ys_are c).1 ((xs_are c).0 (contains-among xs c inside))))
+    (λ c inside. among-contained xs c ((xs_are c).1 ((ys_are c).0 (contains-among ys c inside))))
+
+-- a list turned round has the same numbers
+numbers-turned : (P : ℕ → Type 0) (xs : List ℕ) → ((c : ℕ) → Contains xs c ↔ P c) → (c : ℕ)
+    → Contains (reverse xs) c ↔ P c
+numbers-turned P xs xs_are c = (
+  λ found. (xs_are c).0 (contains-turned_back xs c found),
+  λ has. contains-turned xs c ((xs_are c).1 has),
+)
+
 -- ---- the path
 
 -- two lists that are the ordered path of the same terminals are one
@@ -84,29 +99,15 @@ pub path-only : (net : Net) (up : Table) (a b : ℕ) (one other : List ℕ) → 
 path-only net up a b one other p q =
     p.joins ∙ ap (λ (xs : List ℕ). xs ++ p.behind) fronts ∙ ap (λ (xs : List ℕ). q.front ++ xs) rests ∙ sym q.joins
   where
-    through : (xs ys : List ℕ) (P : ℕ → Type 0) → ((c : ℕ) → Contains xs c ↔ P c) → ((c : ℕ) → Contains ys c ↔ P c)
-        → (c : ℕ) → Contains xs c → Contains ys c
-    through xs ys P xs_are ys_are c inside = (ys_are c).1 ((xs_are c).0 inside)
-
     fronts : p.front ≡ q.front
-    fronts = same-list (size_below net.routers up) p.front q.front p.front_grows q.front_grows
-        (λ c inside. among-contained q.front c (through p.front q.front (IsOnPathAbove net up a b a) p.front_is q.front_is
-        c (contains-among p.front c inside)))
-        (λ c inside. among-contained p.front c (through q.front p.front (IsOnPathAbove net up a b a) q.front_is p.front_is
-        c (contains-among q.front c inside)))
-
-    turned : (xs ys : List ℕ) → ((c : ℕ) → Contains xs c → Contains ys c) → (c : ℕ) → among (reverse xs) c ≡ true
-        → among (reverse ys) c ≡ true
-    turned xs ys part c inside = among-contained (reverse ys) c
-        (contains-turned ys c (part c (contains-turned_back xs c (contains-among (reverse xs) c inside))))
+    fronts = same-numbers (size_below net.routers up) (IsOnPathAbove net up a b a) p.front q.front p.front_is q.front_is
+        p.front_grows q.front_grows
 
     rests : p.behind ≡ q.behind
     rests =
         sym (reverse-reverse p.behind)
         ∙ ap (λ (xs : List ℕ). reverse xs)
-        (same-list (size_below net.routers up) (reverse p.behind) (reverse q.behind) p.behind_falls q.behind_falls
-        (turned p.behind q.behind
-        (through p.behind q.behind (IsOnPathAbove net up a b b) p.behind_is q.behind_is))
-        (turned q.behind p.behind
-        (through q.behind p.behind (IsOnPathAbove net up a b b) q.behind_is p.behind_is)))
+        (same-numbers (size_below net.routers up) (IsOnPathAbove net up a b b) (reverse p.behind) (reverse q.behind)
+        (numbers-turned (IsOnPathAbove net up a b b) p.behind p.behind_is)
+        (numbers-turned (IsOnPathAbove net up a b b) q.behind q.behind_is) p.behind_falls q.behind_falls)
         ∙ reverse-reverse q.behind

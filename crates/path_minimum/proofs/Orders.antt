@@ -1,7 +1,7 @@
 -- Two ways up, the second turned round, are a path in its order.
-use Rattle.std.proofs.Common.{◌≡◌, ◌≢◌, inl, inr, ℕ, ◌+◌, ◌-◌, ◌<◌, ◌≤◌, true, List, [], ◌∷◌, ◌++◌, length, map, reverse, take, drop}
-use Rattle.std.proofs.Common.{sym, ◌∙◌, ap, subst, arith, refl}
-use Rattle.std.specs.Prelude.{◌==◌, ◌↔◌, Contains, All}
+use Rattle.std.proofs.Common.{◌≡◌, inl, inr, ℕ, ◌+◌, ◌<◌, true, List, ◌++◌, length, map, reverse, take, drop}
+use Rattle.std.proofs.Common.{sym, ◌∙◌, subst, arith, refl}
+use Rattle.std.specs.Prelude.{◌==◌, Contains, All}
 use Rattle.std.specs.List.Sorted.{IsStrictlyIncreasing}
 use Rattle.std.proofs.lemmas.Bool.{eq-eqb, eqb-true}
 use Rattle.std.proofs.lemmas.List.{reverse-reverse, length-append, length-reverse, take_at, drop_at}
@@ -10,10 +10,10 @@ use Rattle.std.proofs.lemmas.List.Folds.{list_any_at}
 use Rattle.std.proofs.lemmas.List.Sorted.{Contains-permutation, IsPermutation-reverse}
 use Rattle.std.proofs.lemmas.Map.Views.{Contains-from_any}
 use Rattle.cut_model.specs.Net.{Net}
-use Rattle.cut_model.specs.Terminals.{IsTerminal, root_of}
+use Rattle.cut_model.specs.Terminals.{IsTerminal}
 use Rattle.cut_model.proofs.Terminals.{terminal-lt}
 use Rattle.tree_state.specs.Growing.{GrowingView, up_of, HoldsCutTree}
-use Rattle.tree_state.proofs.Trees.{Tree, tree_below}
+use Rattle.tree_state.proofs.Trees.{Tree}
 use Rattle.path_minimum.specs.Ladders.{depth_of}
 use Rattle.path_minimum.specs.Paths.{size_below, IsOnPathAbove, IsOrderedPath}
 use Rattle.path_minimum.specs.Walks.{way_between, IsMeeting}

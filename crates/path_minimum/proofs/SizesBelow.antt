@@ -1,17 +1,16 @@
 -- How many routers are below each router of a way, and how long two ways are together.
-use Rattle.std.proofs.Common.{◌≡◌, ◌≢◌, inl, inr, ℕ, zero, suc, ◌+◌, ◌-◌, ◌<◌, ◌≤◌, Bool, true, false, not, ◌&&◌, ◌||◌}
-use Rattle.std.proofs.Common.{List, [], ◌∷◌, length, map, cond, sym, ◌∙◌, ap, subst, arith, refl}
+use Rattle.std.proofs.Common.{◌≡◌, ◌≢◌, inl, inr, ℕ, zero, suc, ◌+◌, ◌<◌, ◌≤◌, true, false}
+use Rattle.std.proofs.Common.{List, [], ◌∷◌, map, sym, ◌∙◌, ap, subst, arith, refl}
 use Rattle.std.specs.Prelude.{◌==◌}
 use Rattle.std.specs.List.Sorted.{IsStrictlyIncreasing}
-use Rattle.std.proofs.lemmas.Bool.{cases_Bool, cases_eq, eq-eqb, ne_eqb, eqb-true}
+use Rattle.std.proofs.lemmas.Bool.{cases_Bool, cases_eq, eq-eqb, ne_eqb}
 use Rattle.cut_model.specs.Net.{Net}
 use Rattle.cut_model.specs.Cuts.{RouterSet}
 use Rattle.cut_model.specs.Crossing.{◌∩◌, ◌∪◌}
 use Rattle.cut_model.specs.Terminals.{IsTerminal, number_in}
-use Rattle.cut_model.proofs.Counting.{with_number, with_number-same, with_number-other, number_in-new, number_in-lt}
+use Rattle.cut_model.proofs.Counting.{with_number, with_number-other, number_in-new, number_in-lt}
 use Rattle.cut_model.proofs.Counting.{number_in-same}
 use Rattle.cut_model.proofs.Terminals.{terminal-lt}
-use Rattle.tree_state.specs.Tables.{below, way_up}
 use Rattle.tree_state.proofs.Trees.{Tree, tree_below, tree_below-up}
 use Rattle.path_minimum.specs.Paths.{size_below}
 use Rattle.path_minimum.specs.Ladders.{depth_in}

@@ -1,14 +1,13 @@
 -- The way from a terminal up to another one, without the last, and where two ways up meet.
-use Rattle.std.proofs.Common.{◌≡◌, ◌≢◌, inl, inr, ℕ, zero, suc, ◌+◌, ◌-◌, ◌<◌, ◌≤◌, Bool, true, false, ◌&&◌, ◌||◌}
+use Rattle.std.proofs.Common.{◌≡◌, ◌≢◌, inl, inr, ℕ, zero, suc, ◌-◌, ◌<◌, ◌≤◌, Bool, true, false, ◌||◌}
 use Rattle.std.proofs.Common.{List, [], ◌∷◌, length, sym, ◌∙◌, ap, subst, arith, refl}
 use Rattle.std.specs.Prelude.{◌==◌}
 use Rattle.std.specs.List.{list_any}
-use Rattle.std.proofs.lemmas.Bool.{cases_Bool, cases_eq, cases_lt, false≢true, eq-eqb, ne_eqb, eqb-true, and_parts}
+use Rattle.std.proofs.lemmas.Bool.{cases_Bool, cases_eq, cases_lt, false≢true, ne_eqb, and_parts}
 use Rattle.cut_model.specs.Net.{Net}
 use Rattle.cut_model.specs.Cuts.{RouterSet, differ}
-use Rattle.cut_model.specs.Terminals.{IsTerminal, root_of}
-use Rattle.cut_model.proofs.Terminals.{terminal-lt}
-use Rattle.tree_state.specs.Tables.{Table, way_up, below, some_up}
+use Rattle.cut_model.specs.Terminals.{IsTerminal}
+use Rattle.tree_state.specs.Tables.{Table, way_up, below}
 use Rattle.tree_state.specs.Growing.{GrowingView, up_of, HoldsCutTree}
 use Rattle.tree_state.proofs.Trees.{Tree, tree_below, tree_below_is, tree_below-self, tree_below-high, tree_below-root}
 use Rattle.path_minimum.specs.Ladders.{depth_of}

@@ -26,7 +26,8 @@ impl Model for Ladder {
 }
 
 impl Ladder {
-    /// The ladder of a tree. Each router is passed at most twice.
+    /// The ladder of a tree. It takes time proportional to the number of routers: each way up is walked as
+    /// far as the first router whose depth is known.
     ///
     /// # Errors
     /// [`NoMemory`] where the memory of the depths can't be had, 4 bytes for each router.

@@ -70,7 +70,8 @@ fn deeper_first(ladder: &Ladder, x: u32, y: u32) -> (u32, u32)
 
 /// The least edge of the path between two terminals: that of the smallest width, and of these that whose
 /// lower end has the smallest number. Its side that holds `a` is a least cut of `a` from `b`, of the
-/// edge's width (Gomory and Hu, 1961). It walks up from both, and passes each edge of the path once.
+/// edge's width (Gomory and Hu, 1961). It walks up from both, and passes each edge of the path once. It
+/// takes no memory, and leaves the counter as it is.
 pub fn least_on_path<L: Ledger>(
     ladder: &Ladder,
     finished: &Finished,
@@ -89,7 +90,7 @@ pub fn least_on_path<L: Ledger>(
     ensures within { result.child < finished.now.net.routers }
     ensures steps { steps.new ≡ steps.old }
 {
-    // (its contract tells that the tree is a cut tree)
+    // (called for what it ensures: the tree is a cut tree)
     finished.net();
     let (deeper, _) = deeper_first(ladder, a, b);
     let mut least = edge_above(finished, deeper);

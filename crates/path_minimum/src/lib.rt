@@ -11,6 +11,8 @@ mod least_edge;
 mod ordered_path;
 mod path_room;
 mod sides;
+#[cfg(test)]
+mod tests;
 mod weakest_edge;
 
 pub use ladder::Ladder;

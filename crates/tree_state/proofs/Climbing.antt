@@ -7,8 +7,8 @@ use Rattle.std.proofs.lemmas.Bool.{cases_Bool, cases_eq, false≢true, eqb-false
 use Rattle.std.proofs.lemmas.Bool.Decides.{eqb_tells}
 use Rattle.cut_model.specs.Net.{Net}
 use Rattle.cut_model.specs.Cuts.{RouterSet}
-use Rattle.cut_model.specs.Terminals.{number_in, IsTerminal}
-use Rattle.cut_model.proofs.Counting.{with_number, number_in-none, number_in-lt, number_in-new}
+use Rattle.cut_model.specs.Terminals.{number_in, is_terminal, IsTerminal}
+use Rattle.cut_model.proofs.Counting.{with_number, with_number-other, number_in-none, number_in-lt, number_in-new}
 use Rattle.cut_model.proofs.Crossing.{same_sets}
 use Rattle.cut_model.proofs.Terminals.{terminal-lt}
 use Rattle.tree_state.specs.Tables.{Table, some_up, below}
@@ -91,6 +91,53 @@ meets_root net root up hung i terminal = elim (cases_Bool (below net.routers up 
       let fewer : number_in (first_up up net.routers i) net.routers < net.routers
       = number_in-lt (first_up up net.routers i) root net.routers unmet (terminal-lt net root hung.root_is) in
       omega arith)
+]
+
+-- the way up of a terminal has terminals alone
+first_up-terminal : (net : Net) (root : ℕ) (up : Table) → IsHung net root up → (k i v : ℕ) → IsTerminal net i
+    → first_up up k i v ≡ true → IsTerminal net v
+first_up-terminal net root up hung zero i v terminal met =
+    absurd (false≢true (sym (first_up-zero up i v) ∙ met))
+first_up-terminal net root up hung (suc k) i v terminal met = elim (cases_eq v i) [
+  | inl here ↦ rw here terminal
+  | inr later ↦ first_up-terminal net root up hung k (up i) v (hung.up_is i terminal)
+      (sym (with_number-other i (first_up up k (up i)) v later)
+      ∙ ap (λ (X : RouterSet). X v) (sym (first_up-suc up k i)) ∙ met)
+]
+
+-- so a router that isn't one isn't met again on its way up, which would be too long without the root
+too_many_up : (net : Net) (root : ℕ) (up : Table) → IsHung net root up → (i : ℕ) → i < net.routers
+    → is_terminal net i ≡ false → IsTerminal net (up i) → (n : ℕ) → n ≡ net.routers
+    → some_up (λ j. j == root) up n i ≡ false → ⊥
+unfolding first_up
+too_many_up net root up hung i low other above zero e unmet = omega arith
+too_many_up net root up hung i low other above (suc k) e unmet =
+    let both : ((i == root) ≡ false) × (some_up (λ j. j == root) up k (up i) ≡ false)
+    = or_parts (i == root) (some_up (λ j. j == root) up k (up i))
+    (sym (some_up-suc (λ j. j == root) up k i) ∙ unmet) in
+    let fresh : first_up up k (up i) i ≡ false = elim (cases_Bool (first_up up k (up i) i)) [
+      | inr free ↦ free
+      | inl met ↦ absurd (false≢true
+          (sym other ∙ first_up-terminal net root up hung k (up i) i above met))
+    ] in
+    let all : number_in (first_up up k (up i)) net.routers ≡ k
+    = number_in-first_up net root up hung k (up i) (omega arith) above both.1 in
+    let root_out : with_number i (first_up up k (up i)) root ≡ false
+    = with_number-other i (first_up up k (up i)) root (λ q. eqb-false i root both.0 (sym q)) ∙ both.1 in
+    let fewer : number_in (with_number i (first_up up k (up i))) net.routers < net.routers
+    = number_in-lt (with_number i (first_up up k (up i))) root net.routers root_out
+    (terminal-lt net root hung.root_is) in
+    omega (arith, all, fewer, number_in-new (first_up up k (up i)) i net.routers fresh low)
+
+-- so the way up of every router that hangs from a terminal meets the root
+pub meets_root_from : (net : Net) (root : ℕ) (up : Table) → IsHung net root up → (i : ℕ) → i < net.routers
+    → IsTerminal net (up i) → below net.routers up root i ≡ true
+meets_root_from net root up hung i low above = elim (cases_Bool (is_terminal net i)) [
+  | inl terminal ↦ meets_root net root up hung i terminal
+  | inr other ↦ elim (cases_Bool (below net.routers up root i)) [
+    | inl met ↦ met
+    | inr unmet ↦ absurd (too_many_up net root up hung i low other above net.routers refl unmet)
+  ]
 ]
 
 -- ---- the root hangs from itself

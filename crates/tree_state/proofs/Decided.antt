@@ -1,19 +1,21 @@
 -- What is below a router, decided from router to router: the undecided ones on a way up are alike.
-use Rattle.std.proofs.Common.{◌≡◌, ◌≢◌, ◌⊎◌, inl, inr, ℕ, ◌<◌, Bool, true, false, List, length, set, replicate}
-use Rattle.std.proofs.Common.{sym, ◌∙◌, ap, arith, refl, get_or-set_same, get_or-set_other}
+use Rattle.std.proofs.Common.{◌≡◌, ◌≢◌, ◌⊎◌, inl, inr, ℕ, zero, suc, ◌<◌, Bool, true, false, ◌||◌, List, length}
+use Rattle.std.proofs.Common.{set, replicate, sym, ◌∙◌, ap, arith, refl, get_or-set_same, get_or-set_other}
 use Rattle.std.proofs.Math.Bool.{and-false}
 use Rattle.std.proofs.Math.ListN.{length-set}
-use Rattle.std.proofs.lemmas.Bool.{cases_Bool, cases_eq, false≢true, ne_eqb}
+use Rattle.std.proofs.lemmas.Bool.{cases_Bool, cases_eq, false≢true, eqb-true, eq-eqb, ne_eqb}
 use Rattle.std.proofs.lemmas.List.{length-replicate, get_or-replicate}
-use Rattle.std.specs.Prelude.{◌&&◌, if◌then◌else◌}
-use Rattle.cut_model.specs.Cuts.{set_of}
+use Rattle.std.specs.Prelude.{◌==◌, ◌&&◌, if◌then◌else◌}
+use Rattle.cut_model.specs.Cuts.{RouterSet, set_of}
 use Rattle.cut_model.specs.Terminals.{root_of}
-use Rattle.cut_model.proofs.Terminals.{all_terminals, terminal-lt}
-use Rattle.tree_state.specs.Tables.{below}
+use Rattle.cut_model.proofs.Terminals.{terminal-lt}
+use Rattle.tree_state.specs.Tables.{Table, some_up, below}
 use Rattle.tree_state.specs.Growing.{GrowingView, up_of, width_of, HoldsCutTree}
 use Rattle.tree_state.specs.Shown.{ShowsSet}
 use Rattle.tree_state.specs.Below.{IsMarked, IsDecidedFor}
-use Rattle.tree_state.proofs.Trees.{Tree, tree_of, steps_up, tree_below_is, tree_below-root, tree_below-self}
+use Rattle.tree_state.proofs.Forest.{some_up-suc, some_up-zero, some_up-root}
+use Rattle.tree_state.proofs.Climbing.{IsHung, meets_root_from, root_hangs}
+use Rattle.tree_state.proofs.Trees.{steps_up, steps_up-suc, steps_up-longer, met_above, hung_of}
 
 -- ---- one step up
 
@@ -21,27 +23,58 @@ use Rattle.tree_state.proofs.Trees.{Tree, tree_of, steps_up, tree_below_is, tree
 pub height : GrowingView → ℕ → ℕ
 height tree r = steps_up (up_of tree) (root_of tree.net) tree.net.routers r
 
--- a cut tree as a tree
-abbrev tree_in : (tree : GrowingView) → HoldsCutTree tree → Tree tree.net
-tree_in tree holds = tree_of tree.net (root_of tree.net) (up_of tree) (width_of tree) holds
+-- a cut tree is hung
+hung_in : (tree : GrowingView) → HoldsCutTree tree → IsHung tree.net (root_of tree.net) (up_of tree)
+hung_in tree holds = hung_of tree.net (root_of tree.net) (up_of tree) (width_of tree) holds
+
+-- its root hangs from itself
+top_in : (tree : GrowingView) → HoldsCutTree tree → up_of tree (root_of tree.net) ≡ root_of tree.net
+top_in tree holds = root_hangs tree.net (root_of tree.net) (up_of tree) (hung_in tree holds)
+
+-- every router is below the root
+below-root : (tree : GrowingView) → HoldsCutTree tree → (r : ℕ) → r < tree.net.routers
+    → below tree.net.routers (up_of tree) (root_of tree.net) r ≡ true
+below-root tree holds r low =
+    meets_root_from tree.net (root_of tree.net) (up_of tree) (hung_in tree holds) r low (holds.up_is r low)
+
+-- a way up that met the root meets no more if it goes on
+some_up-met : (P : RouterSet) (up : Table) (root : ℕ) → up root ≡ root → P root ≡ false → (k r : ℕ)
+    → some_up (λ j. j == root) up k r ≡ true → some_up P up (suc k) r ≡ some_up P up k r
+some_up-met P up root top lacks zero r met =
+    absurd (false≢true (sym (some_up-zero (λ j. j == root) up r) ∙ met))
+some_up-met P up root top lacks (suc k) r met = elim (cases_Bool (r == root)) [
+  | inl here ↦ rw (eqb-true r root here)
+      (some_up-root P up root (suc (suc k)) top lacks ∙ sym (some_up-root P up root (suc k) top lacks))
+  | inr later ↦ rw (some_up-suc P up (suc k) r, some_up-suc P up k r)
+      (ap (λ (b : Bool). P r || b) (some_up-met P up root top lacks k (up r) (met_above up root k r later met)))
+]
 
 -- the router above one is a step nearer to the root
 pub height-up : (tree : GrowingView) → HoldsCutTree tree → (r : ℕ) → r < tree.net.routers → r ≢ root_of tree.net
     → height tree (up_of tree r) < height tree r
 unfolding height
-height-up tree holds r low not_root =
-    omega (arith, (tree_in tree holds).step r (all_terminals tree.net r low) not_root)
+height-up tree holds r low not_root = omega (
+  arith,
+  steps_up-longer (up_of tree) (root_of tree.net) tree.net.routers r (below-root tree holds r low),
+  steps_up-suc (up_of tree) (root_of tree.net) tree.net.routers r not_root,
+)
+
+-- below a router other than the root are it and what hangs from a router below it
+below-suc : (tree : GrowingView) → HoldsCutTree tree → (c r : ℕ) → c ≢ root_of tree.net → r < tree.net.routers
+    → below tree.net.routers (up_of tree) c r
+    ≡ ((r == c) || below tree.net.routers (up_of tree) c (up_of tree r))
+below-suc tree holds c r below_top low =
+    sym (some_up-met (λ j. j == c) (up_of tree) (root_of tree.net) (top_in tree holds)
+    (ne_eqb (root_of tree.net) c (λ e. below_top (sym e))) tree.net.routers r (below-root tree holds r low))
+    ∙ some_up-suc (λ j. j == c) (up_of tree) tree.net.routers r
 
 -- a router other than c and the root is below c where the router above it is
 pub below-up : (tree : GrowingView) → HoldsCutTree tree → (c r : ℕ) → r < tree.net.routers → r ≢ root_of tree.net
     → r ≢ c → below tree.net.routers (up_of tree) c r ≡ below tree.net.routers (up_of tree) c (up_of tree r)
 below-up tree holds c r low not_root other = elim (cases_eq c (root_of tree.net)) [
-  | inl top ↦ (
-      let t : Tree tree.net = tree_in tree holds in
-      rw (top, t.meets r (all_terminals tree.net r low)) (sym (t.meets (t.up r) (t.up_is r (all_terminals tree.net r low)))))
-  | inr below_top ↦
-      tree_below_is tree.net (tree_in tree holds) c r below_top (all_terminals tree.net r low)
-      ∙ rw (ne_eqb r c other) refl
+  | inl top ↦ rw (top, below-root tree holds r low)
+      (sym (below-root tree holds (up_of tree r) (terminal-lt tree.net (up_of tree r) (holds.up_is r low))))
+  | inr below_top ↦ below-suc tree holds c r below_top low ∙ rw (ne_eqb r c other) refl
 ]
 
 -- ---- one router decided
@@ -151,17 +184,17 @@ start_inside tree holds c low r r_low (inl at_c) (inl top) =
     let here : set_of (alone tree.net.routers c) r ≡ true = rw at_c (alone-same tree.net.routers c low) in
     let c_top : c ≡ root_of tree.net = sym at_c ∙ top in
     let under : below tree.net.routers (up_of tree) c r ≡ true =
-    rw c_top ((tree_in tree holds).meets r (all_terminals tree.net r r_low)) in
+    rw c_top (below-root tree holds r r_low) in
     rw (here, root_stays tree holds c r here, under) refl
 start_inside tree holds c low r r_low (inl at_c) (inr below_top) =
     let here : set_of (alone tree.net.routers c) r ≡ true = rw at_c (alone-same tree.net.routers c low) in
     let under : below tree.net.routers (up_of tree) c r ≡ true =
-    rw at_c (tree_below-self tree.net (tree_in tree holds) c (λ e. below_top (at_c ∙ e))
-    (all_terminals tree.net c low)) in
+    rw at_c (below-suc tree holds c c (λ e. below_top (at_c ∙ e)) low ∙ rw (eq-eqb c c refl) refl) in
     rw (here, root_stays tree holds c r here, under) refl
 start_inside tree holds c low r r_low (inr other) (inl top) =
     let under : below tree.net.routers (up_of tree) c r ≡ false =
-    rw top (tree_below-root tree.net (tree_in tree holds) c (λ e. other (top ∙ sym e))) in
+    rw top (some_up-root (λ j. j == c) (up_of tree) (root_of tree.net) tree.net.routers (top_in tree holds)
+    (ne_eqb (root_of tree.net) c (λ e. other (top ∙ e)))) in
     rw (alone-other tree.net.routers c r r_low other, under)
     (sym (and-false (set_of (set (alone tree.net.routers c) (root_of tree.net) true) r)))
 start_inside tree holds c low r r_low (inr other) (inr below_top) =

@@ -31,7 +31,7 @@ unfolding steps_up
 steps_up-suc up root n i not_root = rw (ne_eqb i root not_root) refl
 
 -- what is known of the way up of the router above, where the router isn't the root
-met_above : (up : Table) (root k i : ℕ) → (i == root) ≡ false → some_up (λ j. j == root) up (suc k) i ≡ true
+pub met_above : (up : Table) (root k i : ℕ) → (i == root) ≡ false → some_up (λ j. j == root) up (suc k) i ≡ true
     → some_up (λ j. j == root) up k (up i) ≡ true
 met_above up root k i not_root met = rw not_root at (sym (some_up-suc (λ j. j == root) up k i) ∙ met)
 

@@ -1,5 +1,4 @@
-use Rattle.std.proofs.Common.{◌≡◌, suc, false, true, ap, sym, ◌∙◌, arith}
-use Rattle.cut_model.specs.Cuts.{set_of}
+use Rattle.std.proofs.Common.{◌≡◌, suc, sym, ◌∙◌, arith}
 use Rattle.tree_state.specs.Growing.{up_of}
 use Rattle.path_minimum.specs.Ladders.{depth_of}
 use Rattle.path_minimum.proofs.Depths.{depth_of-lt}

@@ -1,4 +1,4 @@
-use Rattle.std.proofs.Common.{◌≡◌, ℕ, inl, inr, suc, ◌<◌, length, set, false, true, ap, sym, ◌∙◌, arith, subst}
+use Rattle.std.proofs.Common.{◌≡◌, ℕ, inl, inr, suc, ◌<◌, length, set, true, sym, ◌∙◌, arith, subst}
 use Rattle.std.proofs.lemmas.Bool.{cases_eq}
 use Rattle.cut_model.specs.Cuts.{set_of}
 use Rattle.tree_state.specs.Growing.{up_of}

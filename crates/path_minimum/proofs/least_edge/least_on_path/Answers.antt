@@ -1,4 +1,4 @@
-use Rattle.std.proofs.Common.{◌≡◌, ◌≢◌, ℕ, ◌<◌, ◌≤◌, length, subst, sym, ap, arith}
+use Rattle.std.proofs.Common.{◌≤◌, arith}
 use Rattle.cut_model.specs.Terminals.{IsTerminal}
 use Rattle.cut_model.proofs.Terminals.{terminal-lt}
 use Rattle.tree_state.proofs.LeastEdges.{least_edge_cut}

@@ -1,4 +1,4 @@
-use Rattle.std.proofs.Common.{◌≡◌, ◌+◌}
+use Rattle.std.proofs.Common.{◌+◌}
 use Rattle.path_minimum.specs.Ladders.{depth_of}
 use Rattle.path_minimum.proofs.Passing.{HasPassed}
 use Rattle.path_minimum.proofs.least_edge.least_on_path.Given as goal

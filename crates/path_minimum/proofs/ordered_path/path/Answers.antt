@@ -1,8 +1,5 @@
-use Rattle.std.proofs.Common.{◌≡◌, ℕ, ◌<◌, ◌++◌, List, [], length, take, drop, reverse, sym, ◌∙◌, ap, subst, arith}
-use Rattle.std.specs.Prelude.{All}
-use Rattle.std.proofs.lemmas.List.{take_at}
+use Rattle.std.proofs.Common.{◌≡◌, ℕ, ◌++◌, List, length, take, drop, reverse, sym, ◌∙◌, ap, arith}
 use Rattle.tree_state.specs.Growing.{up_of}
-use Rattle.path_minimum.specs.Ladders.{depth_of}
 use Rattle.path_minimum.specs.Paths.{IsOrderedPath}
 use Rattle.path_minimum.specs.Walks.{way_between}
 use Rattle.path_minimum.proofs.Depths.{tree_in, depth_of-lt}

@@ -1,6 +1,5 @@
-use Rattle.std.proofs.Common.{◌≡◌, ◌≢◌, ℕ, suc, ◌<◌, ◌++◌, ◌∷◌, [], List, sym, ◌∙◌, ap, arith}
+use Rattle.std.proofs.Common.{◌≡◌, ℕ, suc, ◌<◌, ◌++◌, ◌∷◌, [], List, sym, ◌∙◌, ap, arith}
 use Rattle.std.proofs.lemmas.List.{append_assoc, append-nil}
-use Rattle.cut_model.specs.Terminals.{root_of}
 use Rattle.cut_model.proofs.Terminals.{terminal-lt}
 use Rattle.tree_state.specs.Growing.{up_of}
 use Rattle.path_minimum.specs.Ladders.{depth_of}

@@ -1,4 +1,4 @@
-use Rattle.std.proofs.Common.{◌≡◌, ◌≤◌, ◌∙◌, ap, arith}
+use Rattle.std.proofs.Common.{◌≤◌, ◌∙◌, ap, arith}
 use Rattle.cut_model.specs.Net.{Net}
 use Rattle.path_minimum.proofs.Counted.{weakest-none, weakest-edge, weakest-cut, weakest-within}
 use Rattle.path_minimum.proofs.weakest_edge.weakest.Goals as goal

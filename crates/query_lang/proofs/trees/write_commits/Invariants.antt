@@ -1,0 +1,13 @@
+use Rattle.std.proofs.Common.{map, take, Ok}
+use Rattle.std.specs.List.{concat}
+use Rattle.query_lang.specs.Trees.{commit_line}
+use Rattle.wires.specs.Puts.{Puts}
+use Rattle.wires.specs.declared.faults.Failed.{Failed}
+use Rattle.query_lang.proofs.trees.write_commits.Given as goal
+
+-- The lines of the commits so far are put.
+abbrev pub invariant-loop-place : goal.invariant-loop-place
+invariant-loop-place g l =
+    let sink = g.K.Sink in
+    let put = concat (map (commit_line l.sheet.names) (take l.place l.finished.history)) in
+    Puts {E = Failed} sink.written sink.write_faults sink.beside_sink sink.takes l.fn.sink l.sink (Ok tt) put
