@@ -1,4 +1,5 @@
-//! The side below a router of a finished tree.
+//! The side below a router of a finished tree, its child. A router is decided once it is known whether
+//! it is below the child; inside are those of the decided routers that are.
 ghost use Rattle.std.specs.Prelude.{◌≡◌, ◌<◌, ℕ, true, slice_set, length, if◌then◌else◌};
 ghost use Rattle.cut_model.specs.Cuts.{set_of};
 ghost use Rattle.tree_state.specs.Tables.{below};
@@ -9,7 +10,7 @@ ghost use Rattle.tree_state.specs.Below.{IsMarked, IsDecidedFor};
 use crate::finished::Finished;
 use cut_model::Side;
 
-/// Decides a router.
+/// Decides a router: it is inside from then on where it is below the child.
 fn decide(decided: &mut Side, inside: &mut Side, router: u32, is_below: bool)
     requires decided { router < length decided.old }
     requires inside { router < length inside.old }

@@ -32,7 +32,7 @@ impl Model for Finished {
 }
 
 impl Finished {
-    /// Holds a tree whose history is complete. It takes no memory.
+    /// Holds a cut tree whose history is complete. It takes no memory.
     pub fn hold(grown: Growing) -> Finished
         requires complete { IsComplete grown.net grown.history }
         requires tree { HoldsCutTree grown }

@@ -2,8 +2,9 @@
 //!
 //! A `Growing` is Gusfield's tree of a network while it grows: its tables are exactly what the rule
 //! makes of the history of commits, and the history is legal. A `Finished` is one whose history is
-//! complete. The laws in `laws` say what that gives: a legal history builds half a tree of least
-//! cuts, a complete one a cut tree, and the edges of a cut tree answer for all pairs of terminals.
+//! complete and whose tables are a cut tree; `side_below` gives the routers below one of its routers.
+//! The laws in `laws` say how these hang together: a legal history builds half a tree of least cuts,
+//! a complete one a cut tree, and the edges of a cut tree answer for all pairs of terminals.
 #![tactic(auto)]
 
 mod below;
