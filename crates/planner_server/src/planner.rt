@@ -5,7 +5,7 @@ ghost use Rattle.std.specs.String.{string_bytes};
 ghost use Rattle.planner_server.specs.Commands.{IsPlan};
 ghost use Rattle.planner_server.specs.Runs.{Breaks, EndsLong, EndsShort, EndsWhole, RunEndsAs};
 ghost use Rattle.text_forms.specs.Items.{NoBye, items_of};
-ghost use Rattle.tree_versions.specs.Records.{AreFinished};
+ghost use Rattle.tree_versions.specs.Records.{AreCutTrees, AreFinished};
 ghost use Rattle.tree_versions.specs.Solo.{views_of};
 ghost use Rattle.wires.specs.Causes.{Rose};
 
@@ -84,6 +84,7 @@ fn serve_both<S: Source, K: Sink>(
         (K.written sink.new) (views_of shelf.new.records.items) }
     ensures few { length (views_of shelf.new.records.items) ≤ 256 }
     ensures runs { AreFinished (views_of shelf.new.records.items) }
+    ensures trees { AreCutTrees (views_of shelf.new.records.items) }
     ensures read_fault { result ≡ SessionEnd.ReadFault → Rose (S.read_faults source.old) (S.read_faults source.new) }
     ensures write_fault { result ≡ SessionEnd.WriteFault → Rose (K.write_faults sink.old) (K.write_faults sink.new) }
     ensures completes { (bytes : List ℕ) → S.left source.old ≡ Some bytes → length bytes < 2 ^ 30
@@ -105,6 +106,10 @@ fn serve_both<S: Source, K: Sink>(
 /// bytes that were taken, over the records that are handed back. What a source or a sink doesn't tell
 /// of its bytes is left open.
 ///
+/// Each reply to CUT prints a cut between its two routers that no other cut between them undercuts:
+/// what a text must be to be such a reply is `IsCutReport` (`query_lang/specs/Reports.antt`), and that
+/// is its field `least`. That to WEAKEST is so for the whole network (`IsWeakestReport`).
+///
 /// `NoMemory` comes only before the first read. A run takes at most 2^30 bytes from its source, keeps
 /// at most 256 records of up to about 400 kB each, and some 1,200 kB beside.
 pub fn run<S: Source, K: Sink>(
@@ -121,8 +126,9 @@ pub fn run<S: Source, K: Sink>(
 
     ensures few { length (views_of result.records.items) ≤ 256 }
 
-    // Each record is a finished run over its own network.
+    // Each record is a finished run over its own network, and its tree is a cut tree.
     ensures runs { AreFinished (views_of result.records.items) }
+    ensures trees { AreCutTrees (views_of result.records.items) }
 
     // What was written answers the whole items of the bytes that were taken, over these records and no others.
     ensures done { result.status ≡ Status.Done

@@ -1,22 +1,23 @@
 -- The definitions on small examples, by computing.
 use Rattle.std.proofs.Common.{◌≡◌, List, ℕ, [], ◌∷◌, ◌++◌, true, false, Some, None, Result, Ok, Err, refl, codes}
-use Rattle.std.proofs.Common.{replicate}
+use Rattle.std.proofs.Common.{map, replicate}
 use Rattle.std.specs.Fmt.{digits}
 use Rattle.cut_model.specs.Net.{Net}
 use Rattle.cut_model.specs.Terminals.{is_terminal, number_in, root_of}
 use Rattle.network_text.specs.Sheets.{SheetView}
 use Rattle.network_text.specs.Writing.{sheet_text}
 use Rattle.query_lang.specs.declared.request.Request.{Request}
-use Rattle.query_lang.specs.declared.request.Request.TheVariants.{Nothing, Load, Cut, Tree, Run, Bye}
+use Rattle.query_lang.specs.declared.request.Request.TheVariants.{Nothing, Load, Cut, Path, Tree, Run, Weakest, Bye}
 use Rattle.query_lang.specs.declared.request.Request.TheVariants as asks
 use Rattle.query_lang.specs.declared.request.RequestFault.{RequestFault}
 use Rattle.query_lang.specs.Replies.{bye_text, cut_text, head_text, loaded_text, net_text, refused_text}
-use Rattle.query_lang.specs.Reports.{reply_text}
+use Rattle.query_lang.specs.Reports.{IsReport}
 use Rattle.query_lang.specs.Requests.{fault_number, request_of}
-use Rattle.query_lang.specs.Trees.{run_text, tree_text}
-use Rattle.tree_state.specs.Growing.{GrowingView}
+use Rattle.query_lang.specs.Trees.{path_text, run_text, tree_text}
+use Rattle.tree_state.specs.Growing.{GrowingView, up_of, width_of}
 use Rattle.tree_state.specs.History.{tables}
-use Rattle.tree_state.specs.Tables.{up_after, width_after}
+use Rattle.tree_state.specs.Tables.{below, some_up, up_after, width_after}
+use Rattle.tree_state.specs.Paths.{side_for}
 
 -- Two routers, a and b, with a link of 5.
 abbrev pair : Net
@@ -27,6 +28,10 @@ names = codes "a" ∷ codes "b" ∷ []
 
 abbrev sheet : SheetView
 sheet = record { names = names; net = pair }
+
+-- One router alone.
+abbrev lonely : SheetView
+lonely = record { names = codes "a" ∷ []; net = record { routers = 1; links = [] } }
 
 -- The number by which a request is refused, and 0 where it isn't.
 abbrev number_told : Result Request RequestFault → ℕ
@@ -55,6 +60,13 @@ cut = refl
 
 net : request_of (Some sheet) (codes "NET") ≡ Ok asks.Net
 net = refl
+
+path : request_of (Some sheet) (codes "PATH a b") ≡ Ok (Path 0 1)
+path = refl
+
+weakest : request_of (Some sheet) (codes "WEAKEST") ≡ Ok Weakest
+unfolding number_in is_terminal
+weakest = refl
 
 tree : request_of (Some sheet) (codes "TREE") ≡ Ok Tree
 tree = refl
@@ -137,6 +149,33 @@ unknown_first = refl
 unknown_twice : later (codes "CUT z z") ≡ 4
 unknown_twice = refl
 
+path_to_itself : later (codes "PATH b b") ≡ 5
+path_to_itself = refl
+
+path_to_nowhere : later (codes "PATH b z") ≡ 4
+path_to_nowhere = refl
+
+path_of_three : before (codes "PATH a b c") ≡ 3
+path_of_three = refl
+
+path_before : before (codes "PATH a b") ≡ 6
+path_before = refl
+
+-- One terminal alone has no weakest edge, which counts last.
+weakest_of_one : number_told (request_of (Some lonely) (codes "WEAKEST")) ≡ 8
+unfolding number_in is_terminal
+weakest_of_one = refl
+
+weakest_with_further_word : number_told (request_of (Some lonely) (codes "WEAKEST a")) ≡ 3
+weakest_with_further_word = refl
+
+weakest_before : before (codes "WEAKEST") ≡ 6
+weakest_before = refl
+
+-- The one router of a network and itself are two equal names.
+lonely_cut : number_told (request_of (Some lonely) (codes "CUT a a")) ≡ 5
+lonely_cut = refl
+
 same_router : later (codes "CUT a a") ≡ 5
 same_router = refl
 
@@ -145,11 +184,11 @@ loaded : loaded_text 1 pair ≡ codes "@1 LOADED routers 2 links 1\n"
 unfolding digits loaded_text
 loaded = refl
 
-cut_reply : cut_text 1 5 names (true ∷ false ∷ []) ≡ codes "@1 CUT 5 side a\n"
+cut_reply : cut_text 1 (codes "CUT") 5 names (true ∷ false ∷ []) ≡ codes "@1 CUT 5 side a\n"
 unfolding digits cut_text
 cut_reply = refl
 
-both_named : cut_text 12 340 names (true ∷ true ∷ []) ≡ codes "@12 CUT 340 side a b\n"
+both_named : cut_text 12 (codes "CUT") 340 names (true ∷ true ∷ []) ≡ codes "@12 CUT 340 side a b\n"
 unfolding digits cut_text
 both_named = refl
 
@@ -169,6 +208,9 @@ six = record {
         ∷ record { a = 3; b = 4; cap = 1 } ∷ record { a = 3; b = 5; cap = 6 } ∷ record { a = 4; b = 5; cap = 2 } ∷ [];
   };
 }
+
+routers : List ℕ
+routers = 0 ∷ 1 ∷ 2 ∷ 3 ∷ 4 ∷ 5 ∷ []
 
 -- Their tree, by commits in the order of their numbers, each with a least cut.
 grown : GrowingView
@@ -193,25 +235,46 @@ unfolding digits run_text six grown
 whole_run = refl
 
 -- One router alone has no edge.
-lonely : SheetView
-lonely = record { names = codes "a" ∷ []; net = record { routers = 1; links = [] } }
-
 no_edge : tree_text 1 lonely (record { net = lonely.net; history = [] }) ≡ codes "@1 TREE 0\n"
-unfolding digits tree_text lonely tables is_terminal number_in root_of
+unfolding digits tree_text tables is_terminal number_in root_of
 no_edge = refl
 
 no_commit : run_text 1 lonely (record { net = lonely.net; history = [] }) ≡ codes "@1 RUN 0\n"
-unfolding digits run_text lonely
+unfolding digits run_text
 no_commit = refl
 
--- Each request that tells of the whole is answered by its text.
-asked_tree : reply_text 3 six grown Tree ≡ tree_text 3 six grown
+-- The path of the first and the last router, by its lower ends in their order.
+whole_path : path_text 1 six grown (2 ∷ 4 ∷ 1 ∷ 3 ∷ 5 ∷ [])
+    ≡ codes "@1 PATH 5\nr2 r0 8\nr4 r2 6\nr1 r4 7\nr3 r1 6\nr5 r3 8\n"
+unfolding digits path_text six grown tables up_after width_after root_of
+whole_path = refl
+
+-- Of its edges two have the smallest width. The one with the smaller number has these routers on the side of the first.
+least_of_path : cut_text 1 (codes "CUT") (width_of grown 3) six.names (map (side_for 6 (up_of grown) 0 3) routers)
+    ≡ codes "@1 CUT 6 side r0 r1 r2 r4\n"
+unfolding digits cut_text six grown tables up_after width_after root_of some_up routers
+least_of_path = refl
+
+-- One edge alone is the path of its two ends.
+one_edge : cut_text 1 (codes "CUT") (width_of grown 1) six.names (map (side_for 6 (up_of grown) 1 1) routers)
+    ≡ codes "@1 CUT 7 side r1 r3 r5\n"
+unfolding digits cut_text six grown tables up_after width_after root_of some_up routers
+one_edge = refl
+
+-- The weakest edge, with what is below it.
+weakest_edge : cut_text 1 (codes "WEAKEST") (width_of grown 3) six.names (map (below 6 (up_of grown) 3) routers)
+    ≡ codes "@1 WEAKEST 6 side r3 r5\n"
+unfolding digits cut_text six grown tables up_after width_after root_of some_up routers
+weakest_edge = refl
+
+-- Each request that tells of the whole is answered by its text alone.
+asked_tree : IsReport 3 six grown Tree (tree_text 3 six grown)
 asked_tree = refl
 
-asked_run : reply_text 3 six grown Run ≡ run_text 3 six grown
+asked_run : IsReport 3 six grown Run (run_text 3 six grown)
 asked_run = refl
 
-asked_network : reply_text 3 six grown asks.Net ≡ net_text 3 six
+asked_network : IsReport 3 six grown asks.Net (net_text 3 six)
 asked_network = refl
 
 head : head_text 10 (codes "NET") 4 ≡ codes "@10 NET 4\n"

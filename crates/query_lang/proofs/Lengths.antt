@@ -17,16 +17,18 @@ use Rattle.cut_model.specs.Terminals.{terminal_count}
 use Rattle.cut_model.specs.declared.network.Link.{Link}
 use Rattle.network_text.specs.Sheets.{IsSheet, SheetView}
 use Rattle.network_text.specs.Writing.{link_text, name_at, router_text, sheet_text}
+use Rattle.path_minimum.specs.Paths.{IsOrderedPath}
 use Rattle.text_forms.specs.Names.{is_name}
+use Rattle.query_lang.proofs.PathLengths.{length-path}
 use Rattle.query_lang.specs.Replies.{bye_text, cut_head, cut_text, head_text, line_piece, loaded_text, name_piece}
 use Rattle.query_lang.specs.Replies.{net_text, refused_text, sheet_lines, side_names}
-use Rattle.query_lang.specs.Reports.{reply_text}
-use Rattle.query_lang.specs.Requests.{IsReported}
-use Rattle.query_lang.specs.Trees.{child_line, children_of, commit_line, edge_line, is_child, run_text, tree_text}
+use Rattle.query_lang.specs.Reports.{IsReport}
+use Rattle.query_lang.specs.Trees.{child_line, children_of, commit_line, edge_line, is_child, path_text, run_text}
+use Rattle.query_lang.specs.Trees.{tree_text}
 use Rattle.query_lang.specs.declared.request.Request.{Request}
-use Rattle.query_lang.specs.declared.request.Request.TheVariants.{Nothing, Load, Cut, Tree, Run, Bye}
+use Rattle.query_lang.specs.declared.request.Request.TheVariants.{Cut, Path, Tree, Run, Weakest}
 use Rattle.query_lang.specs.declared.request.Request.TheVariants as asks
-use Rattle.tree_state.specs.Growing.{GrowingView}
+use Rattle.tree_state.specs.Growing.{GrowingView, up_of, width_of}
 
 -- Digits put before others are at most as many as are asked for.
 length-digits_onto : (k base : ℕ) (upper : Bool) (n : ℕ) (behind : List ℕ)
@@ -72,9 +74,11 @@ length-name_piece : (name : List ℕ) (inside : Bool) → length name ≤ 32 →
 length-name_piece name true short = simp length-append (omega arith)
 length-name_piece name false short = omega arith
 
--- The first words of a cut.
-length-cut_head : (version value : ℕ) → length (cut_head version value) ≤ 139
-length-cut_head version value = simp length-append (omega (arith, digits_64 version, digits_64 value))
+-- The first words of a reply that tells a cut, with a word of at most eight letters.
+length-cut_head : (version value : ℕ) (word : List ℕ) → length word ≤ 8
+    → length (cut_head version word value) ≤ 144
+length-cut_head version value word short =
+    simp length-append (omega (arith, digits_64 version, digits_64 value))
 
 -- A name is short.
 name_short : (name : List ℕ) → IsTrue (is_name name) → length name ≤ 32
@@ -92,16 +96,16 @@ length-side_names (name ∷ names) (inside ∷ side) named =
     omega (arith, length-append (name_piece name inside) (side_names names side), here, behind)
 
 -- A cut fits: 33 bytes for each of 1,024 names, and some more.
-pub length-cut_text : (version value : ℕ) (names : List (List ℕ)) (net : Net) (side : List Bool)
-    → IsSheet names net → length (cut_text version value names side) ≤ 740000
+pub length-cut_text : (version value : ℕ) (word : List ℕ) (names : List (List ℕ)) (net : Net) (side : List Bool)
+    → length word ≤ 8 → IsSheet names net → length (cut_text version word value names side) ≤ 740000
 unfolding cut_text
-length-cut_text version value names net side sheet =
-    let head = length-cut_head version value in
+length-cut_text version value word names net side short sheet =
+    let head = length-cut_head version value word short in
     let tail = length-side_names names side sheet.named in
     let routers : net.routers ≤ 1024 = sheet.limits.few_routers in
     let all = side_names names side ++ codes "\n" in
     let length_all = length-append (side_names names side) (codes "\n") in
-    omega (arith, head, tail, routers, sheet.numbered, length-append (cut_head version value) all, length_all)
+    omega (arith, head, tail, routers, sheet.numbered, length-append (cut_head version word value) all, length_all)
 
 -- Texts of at most so many bytes each.
 length-texts : {X : Type 0} (text_of : X → List ℕ) (most : ℕ) (xs : List X) → All (λ x. length (text_of x) ≤ most) xs
@@ -221,14 +225,34 @@ length-run_text version sheet tree is few =
     let whole = length-append first_line (concat (map (commit_line sheet.names) history)) in
     omega (arith, few, lines, head, whole)
 
+-- A path fits: a line of 131 bytes for each of at most 2,050 edges, and the first line.
+pub length-path_text : (version a b : ℕ) (sheet : SheetView) (tree : GrowingView) (children : List ℕ)
+    → IsSheet sheet.names sheet.net → tree.net ≡ sheet.net → IsOrderedPath tree.net (up_of tree) a b children
+    → length (path_text version sheet tree children) ≤ 740000
+unfolding path_text
+length-path_text version a b sheet tree children is same path =
+    let few : sheet.net.routers ≤ 1024 = is.limits.few_routers in
+    let routers : tree.net.routers ≡ sheet.net.routers = ap (λ (net : Net). net.routers) same in
+    let lines = length-texts (child_line sheet.names tree) 131 children
+    (λ k d within. length-edge_line sheet.names (slice_index_or children k d) _ _ is.named) in
+    let head = length-short_head version (length children) (codes "PATH") (omega arith) in
+    let first_line = head_text version (codes "PATH") (length children) in
+    let whole = length-append first_line (concat (map (child_line sheet.names tree) children)) in
+    omega (arith, few, routers, lines, head, length-path tree.net (up_of tree) a b children path, whole)
+
 -- Each report fits.
-pub length-reply_text : (version : ℕ) (sheet : SheetView) (tree : GrowingView) (request : Request)
-    → IsSheet sheet.names sheet.net → tree.net ≡ sheet.net → length tree.history ≤ 1024 → IsReported request
-    → length (reply_text version sheet tree request) ≤ 740000
-length-reply_text version sheet tree Nothing is same few reported = absurd reported
-length-reply_text version sheet tree Load is same few reported = absurd reported
-length-reply_text version sheet tree (Cut a b) is same few reported = absurd reported
-length-reply_text version sheet tree Tree is same few reported = length-tree_text version sheet tree is same
-length-reply_text version sheet tree Run is same few reported = length-run_text version sheet tree is few
-length-reply_text version sheet tree asks.Net is same few reported = length-net_text version sheet is
-length-reply_text version sheet tree Bye is same few reported = absurd reported
+pub length-report : (version : ℕ) (sheet : SheetView) (tree : GrowingView) (request : Request) (text : List ℕ)
+    → IsSheet sheet.names sheet.net → tree.net ≡ sheet.net → length tree.history ≤ 1024
+    → IsReport version sheet tree request text → length text ≤ 740000
+length-report version sheet tree (Cut a b) text is same few report =
+    rw report.text_is (length-cut_text version (width_of tree report.child) (codes "CUT") sheet.names sheet.net
+    report.side (omega arith) is)
+length-report version sheet tree (Path a b) text is same few report =
+    rw report.text_is (length-path_text version a b sheet tree report.children is same report.path)
+length-report version sheet tree Tree text is same few report = rw report (length-tree_text version sheet tree is same)
+length-report version sheet tree Run text is same few report = rw report (length-run_text version sheet tree is few)
+length-report version sheet tree asks.Net text is same few report = rw report (length-net_text version sheet is)
+length-report version sheet tree Weakest text is same few report =
+    rw report.text_is (length-cut_text version (width_of tree report.child) (codes "WEAKEST") sheet.names sheet.net
+    report.side (omega arith) is)
+length-report version sheet tree request text is same few report = absurd report

@@ -1,9 +1,11 @@
 pub mod Children
+pub mod CutReports
 pub mod Entries
 pub mod Examples
 pub mod Fits
 pub mod Lengths
 pub mod NameTexts
+pub mod PathLengths
 pub mod RequestKinds
 pub mod SameNames
 pub mod SmallTrees

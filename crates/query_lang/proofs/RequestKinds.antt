@@ -1,18 +1,19 @@
 -- What a request line asks for, by what it is among the items of a session.
 use Rattle.std.proofs.Common.{◌≡◌, ◌↔◌, ℕ, List, [], ◌∷◌, Bool, true, false, None, Some, Result, Ok, Err, refl, ap}
-use Rattle.std.proofs.Common.{◌∙◌, subst, codes, if◌then◌else◌, ◌==◌, ◌&&◌, not}
+use Rattle.std.proofs.Common.{◌∙◌, subst, codes, if◌then◌else◌, ◌==◌, ◌&&◌, nat_lt, not}
 use Rattle.std.proofs.lemmas.Bool.{false≢true, true≢false}
 use Rattle.std.proofs.lemmas.Slice.Eq.{bytes_eq-Decides}
 use Rattle.std.specs.Str.{bytes_eq}
 use Rattle.std.specs.declared.option.Option.{Option}
-use Rattle.network_text.specs.Sheets.{SheetView, number_of}
-use Rattle.query_lang.specs.Requests.{IsReported, cut_between, cut_named, cut_of, of_network, request_of}
-use Rattle.query_lang.specs.Requests.{words_ask}
+use Rattle.cut_model.specs.Terminals.{terminal_count}
+use Rattle.network_text.specs.Sheets.{SheetView}
+use Rattle.query_lang.specs.Requests.{IsReported, about, ends_of, of_network, request_of, weakest_of, words_ask}
 use Rattle.query_lang.specs.declared.request.Request.{Request}
-use Rattle.query_lang.specs.declared.request.Request.TheVariants.{Nothing, Load, Cut, Tree, Run, Net, Bye}
+use Rattle.query_lang.specs.declared.request.Request.TheVariants.{Nothing, Load, Cut, Path, Tree, Run, Net}
+use Rattle.query_lang.specs.declared.request.Request.TheVariants.{Weakest, Bye}
 use Rattle.query_lang.specs.declared.request.RequestFault.{RequestFault}
 use Rattle.query_lang.specs.declared.request.RequestFault.TheVariants.{UnknownWord, LineTooLong}
-use Rattle.query_lang.specs.declared.request.RequestFault.TheVariants.{SameRouter}
+use Rattle.query_lang.specs.declared.request.RequestFault.TheVariants.{OneRouter}
 use Rattle.text_forms.specs.Lines.{is_long}
 use Rattle.text_forms.specs.Words.{is_passed, is_load, is_bye, is_lone, is_remark, line_words}
 
@@ -35,11 +36,15 @@ IsOther answer = Unit {0}
 pub other_of_reported : (request : Request) → IsReported request → IsOther (Ok request)
 other_of_reported Nothing reported = absurd reported
 other_of_reported Load reported = absurd reported
-other_of_reported (Cut a b) reported = tt
-other_of_reported Tree reported = tt
-other_of_reported Run reported = tt
-other_of_reported Net reported = tt
 other_of_reported Bye reported = absurd reported
+other_of_reported request reported = tt
+
+-- And a request that is answered from a record has a report for its reply.
+pub reported_of_other : (request : Request) → IsOther (Ok request) → IsReported request
+reported_of_other Nothing other = absurd other
+reported_of_other Load other = absurd other
+reported_of_other Bye other = absurd other
+reported_of_other request other = tt
 
 -- Such an answer is right for a line that is none of the three.
 pub kind_of_other : (answer : Result Request RequestFault) (load bye : Bool) → IsOther answer → load ≡ false
@@ -49,27 +54,21 @@ kind_of_other (Ok Load) load bye other no_load no_bye = absurd other
 kind_of_other (Ok Bye) load bye other no_load no_bye = absurd other
 kind_of_other answer load bye other no_load no_bye = (refl, no_load, no_bye)
 
--- Two routers, known or not, give a cut or a fault.
-other_between : (first second : Option ℕ) → IsOther (cut_between first second)
-other_between None second = tt
-other_between (Some a) None = tt
-other_between (Some a) (Some b) = chosen (a == b)
+-- A request about two routers, or the fault for which there are no two, is such an answer.
+other_about : (request : ℕ → ℕ → Request) (ends : Result (ℕ × ℕ) RequestFault)
+    → ((a b : ℕ) → IsOther (Ok (request a b))) → IsOther (about request ends)
+other_about request (Ok ends) other = other ends.0 ends.1
+other_about request (Err fault) other = tt
+
+-- So is what `WEAKEST` gives, whatever stands behind it.
+other_weakest : (sheet : Option SheetView) (words : List (List ℕ)) → IsOther (weakest_of sheet words)
+other_weakest sheet (word ∷ words) = tt
+other_weakest None [] = tt
+other_weakest (Some sheet) [] = chosen (nat_lt (terminal_count sheet.net) 2)
   where
-    chosen : (same : Bool) → IsOther (if same then Err SameRouter else Ok (Cut a b))
+    chosen : (few : Bool) → IsOther (if few then Err OneRouter else Ok Weakest)
     chosen true = tt
     chosen false = tt
-
--- Two names give a cut or a fault.
-other_named : (sheet : Option SheetView) (first second : List ℕ) → IsOther (cut_named sheet first second)
-other_named None first second = tt
-other_named (Some sheet) first second = other_between (number_of sheet.names first) (number_of sheet.names second)
-
--- Whatever stands behind `CUT` gives a cut or a fault.
-other_cut : (sheet : Option SheetView) (words : List (List ℕ)) → IsOther (cut_of sheet words)
-other_cut sheet [] = tt
-other_cut sheet (first ∷ []) = tt
-other_cut sheet (first ∷ second ∷ []) = other_named sheet first second
-other_cut sheet (first ∷ second ∷ third ∷ words) = tt
 
 -- A word that asks for the network gives what it asks or a fault, whatever stands behind it.
 other_of_network : (request : Request) (sheet : Option SheetView) (words : List (List ℕ)) → IsOther (Ok request)
@@ -107,23 +106,29 @@ kind_of_one sheet word =
     let bye = bytes_eq word (codes "BYE") in
     kind_load (bytes_eq word (codes "LOAD")) _ bye
     (kind_past (bytes_eq word (codes "CUT")) _ _ bye (not_both word (codes "CUT") (codes "BYE") refl) tt
+    (kind_past (bytes_eq word (codes "PATH")) _ _ bye (not_both word (codes "PATH") (codes "BYE") refl) tt
     (kind_past (bytes_eq word (codes "TREE")) _ _ bye (not_both word (codes "TREE") (codes "BYE") refl)
     (other_of_network Tree sheet [] tt)
     (kind_past (bytes_eq word (codes "RUN")) _ _ bye (not_both word (codes "RUN") (codes "BYE") refl)
     (other_of_network Run sheet [] tt)
     (kind_past (bytes_eq word (codes "NET")) _ _ bye (not_both word (codes "NET") (codes "BYE") refl)
-    (other_of_network Net sheet [] tt) (kind_bye bye)))))
+    (other_of_network Net sheet [] tt)
+    (kind_past (bytes_eq word (codes "WEAKEST")) _ _ bye (not_both word (codes "WEAKEST") (codes "BYE") refl)
+    (other_weakest sheet []) (kind_bye bye)))))))
 
 -- Several words do neither.
 kind_of_more : (sheet : Option SheetView) (word second : List ℕ) (words : List (List ℕ))
     → IsKind (words_ask sheet (word ∷ second ∷ words)) false false false
 kind_of_more sheet word second words =
+    let ends = ends_of sheet (second ∷ words) in
     neither (bytes_eq word (codes "LOAD")) _ _ tt
-    (neither (bytes_eq word (codes "CUT")) _ _ (other_cut sheet (second ∷ words))
+    (neither (bytes_eq word (codes "CUT")) _ _ (other_about Cut ends (λ a b. tt))
+    (neither (bytes_eq word (codes "PATH")) _ _ (other_about Path ends (λ a b. tt))
     (neither (bytes_eq word (codes "TREE")) _ _ tt
     (neither (bytes_eq word (codes "RUN")) _ _ tt
     (neither (bytes_eq word (codes "NET")) _ _ tt
-    (neither (bytes_eq word (codes "BYE")) _ _ tt (refl, refl, refl))))))
+    (neither (bytes_eq word (codes "WEAKEST")) _ _ tt
+    (neither (bytes_eq word (codes "BYE")) _ _ tt (refl, refl, refl))))))))
   where
     neither : (is : Bool) (answer rest : Result Request RequestFault) → IsOther answer
         → IsKind rest false false false → IsKind (if is then answer else rest) false false false

@@ -51,11 +51,11 @@ side_names [] side = []
 side_names (name ∷ names) [] = []
 side_names (name ∷ names) (inside ∷ side) = name_piece name inside ++ side_names names side
 
--- The first words of the reply to a cut, up to the names.
-abbrev pub cut_head : ℕ → ℕ → List ℕ
-cut_head version value =
-    concat (codes "@" ∷ decimal version ∷ codes " CUT " ∷ decimal value ∷ codes " side" ∷ [])
+-- The first words of a reply that tells a cut, up to the names: its word and the cut's value.
+abbrev pub cut_head : ℕ → List ℕ → ℕ → List ℕ
+cut_head version word value = concat (codes "@" ∷ decimal version ∷ codes " " ∷ word ∷ codes " " ∷ decimal value
+    ∷ codes " side" ∷ [])
 
--- A least cut: its value, and the names of the routers on the first router's side.
-unfoldable pub cut_text : ℕ → ℕ → List (List ℕ) → List Bool → List ℕ
-cut_text version value names side = cut_head version value ++ (side_names names side ++ codes "\n")
+-- A cut, behind a word: its value, and the names of the routers on its side.
+unfoldable pub cut_text : ℕ → List ℕ → ℕ → List (List ℕ) → List Bool → List ℕ
+cut_text version word value names side = cut_head version word value ++ (side_names names side ++ codes "\n")

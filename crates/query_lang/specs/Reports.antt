@@ -1,15 +1,60 @@
 -- Which text is the reply to a request that is answered from a network and its tree.
-use Rattle.std.specs.Prelude.{ℕ, List, []}
+use Rattle.std.specs.Prelude.{◌≡◌, ℕ, List, Bool, codes, Result}
+use Rattle.std.specs.declared.option.Option.{Option}
+use Rattle.cut_model.specs.Cuts.{IsLeastCut, set_of}
+use Rattle.cut_model.specs.Terminals.{root_of}
 use Rattle.network_text.specs.Sheets.{SheetView}
-use Rattle.tree_state.specs.Growing.{GrowingView}
+use Rattle.path_minimum.specs.Paths.{IsOrderedPath}
+use Rattle.tree_state.specs.Growing.{GrowingView, up_of, width_of}
+use Rattle.tree_state.specs.Paths.{IsLeastEdge, IsWeakest, IsGlobalCut, side_for}
+use Rattle.tree_state.specs.Shown.{ShowsSet}
+use Rattle.tree_state.specs.Tables.{below}
+use Rattle.wires.specs.Beside.{Beside}
+use Rattle.wires.specs.Puts.{Puts}
 use Rattle.query_lang.specs.declared.request.Request.{Request}
-use Rattle.query_lang.specs.declared.request.Request.TheVariants.{Tree, Run, Net}
-use Rattle.query_lang.specs.Replies.{net_text}
-use Rattle.query_lang.specs.Trees.{tree_text, run_text}
+use Rattle.query_lang.specs.declared.request.Request.TheVariants.{Cut, Path, Tree, Run, Net, Weakest}
+use Rattle.query_lang.specs.Replies.{cut_text, net_text}
+use Rattle.query_lang.specs.Trees.{path_text, run_text, tree_text}
 
--- The reply to a request that tells of a whole network, its tree or the run that made it.
-abbrev pub reply_text : ℕ → SheetView → GrowingView → Request → List ℕ
-reply_text version sheet tree Tree = tree_text version sheet tree
-reply_text version sheet tree Run = run_text version sheet tree
-reply_text version sheet tree Net = net_text version sheet
-reply_text version sheet tree _ = []
+-- The reply to CUT tells the least edge of the path of routers a and b: its width, and the names of the routers on the
+-- side of it that holds a. So it is a cut of a from b, costs its value, and no other cut of a from b costs less.
+pub record IsCutReport (version : ℕ) (sheet : SheetView) (tree : GrowingView) (a b : ℕ) (text : List ℕ) : Type 0 where
+  pub child : ℕ
+  pub least_edge : IsLeastEdge tree.net (up_of tree) (width_of tree) a b child
+  pub side : List Bool
+  pub side_is : ShowsSet tree.net.routers (side_for tree.net.routers (up_of tree) a child) side
+  pub least : IsLeastCut tree.net a b (set_of side) (width_of tree child)
+  pub text_is : text ≡ cut_text version (codes "CUT") (width_of tree child) sheet.names side
+
+-- The reply to PATH tells the edges of the path of routers a and b in their order.
+pub record IsPathReport (version : ℕ) (sheet : SheetView) (tree : GrowingView) (a b : ℕ) (text : List ℕ) : Type 0 where
+  pub children : List ℕ
+  pub path : IsOrderedPath tree.net (up_of tree) a b children
+  pub text_is : text ≡ path_text version sheet tree children
+
+-- The reply to WEAKEST tells the weakest edge of the tree: its width, and the names of the routers below it. So it
+-- parts terminals, costs its value, and no other set that parts terminals costs less.
+pub record IsWeakestReport (version : ℕ) (sheet : SheetView) (tree : GrowingView) (text : List ℕ) : Type 0 where
+  pub child : ℕ
+  pub weakest : IsWeakest tree.net (root_of tree.net) (width_of tree) child
+  pub side : List Bool
+  pub side_is : ShowsSet tree.net.routers (below tree.net.routers (up_of tree) child) side
+  pub least : IsGlobalCut tree.net (set_of side) (width_of tree child)
+  pub text_is : text ≡ cut_text version (codes "WEAKEST") (width_of tree child) sheet.names side
+
+-- The text is the reply to a request from a network with the names of its routers, and its tree.
+abbrev pub IsReport : ℕ → SheetView → GrowingView → Request → List ℕ → Type 0
+IsReport version sheet tree (Cut a b) text = IsCutReport version sheet tree a b text
+IsReport version sheet tree (Path a b) text = IsPathReport version sheet tree a b text
+IsReport version sheet tree Tree text = text ≡ tree_text version sheet tree
+IsReport version sheet tree Run text = text ≡ run_text version sheet tree
+IsReport version sheet tree Net text = text ≡ net_text version sheet
+IsReport version sheet tree Weakest text = IsWeakestReport version sheet tree text
+IsReport version sheet tree _ text = ⊥
+
+-- A text of the wanted kind was put into a sink: all of it, or at a failure a front of it.
+pub record PutsSome {S E : Type 0} (written : S → Option (List ℕ)) (write_faults : S → ℕ) (beside_sink : S → Beside)
+    (takes : S → ℕ → Bool) (old new : S) (result : Result (Unit {0}) E) (IsWanted : List ℕ → Type 0) : Type 0 where
+  pub text : List ℕ
+  pub wanted : IsWanted text
+  pub puts : Puts written write_faults beside_sink takes old new result text

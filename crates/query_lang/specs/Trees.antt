@@ -1,4 +1,4 @@
--- The texts that tell a tree, and the run that made it.
+-- The texts that tell a tree, the run that made it, and paths in it.
 use Rattle.std.specs.Prelude.{ℕ, ◌-◌, List, [], ◌∷◌, ◌++◌, ◌&&◌, ◌==◌, not, filter, length, map, codes, decimal}
 use Rattle.std.specs.Prelude.{if◌then◌else◌}
 use Rattle.std.specs.List.{concat, range_with_len}
@@ -45,3 +45,8 @@ commit_line names entry = edge_line names entry.router entry.neighbour entry.val
 unfoldable pub run_text : ℕ → SheetView → GrowingView → List ℕ
 run_text version sheet tree = head_text version (codes "RUN") (length tree.history)
     ++ concat (map (commit_line sheet.names) tree.history)
+
+-- A path: the edges above its lower ends, in their order.
+unfoldable pub path_text : ℕ → SheetView → GrowingView → List ℕ → List ℕ
+path_text version sheet tree children = head_text version (codes "PATH") (length children)
+    ++ concat (map (child_line sheet.names tree) children)

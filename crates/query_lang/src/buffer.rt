@@ -1,15 +1,18 @@
 //! The room in which a session gathers one reply before it is put.
 ghost use Rattle.std.specs.Prelude.{◌≡◌, ◌+◌, ◌≤◌, [], Some, IfOk, length, nat_le};
 ghost use Rattle.std.specs.Prelude.{vec_capacity, vec_len};
-ghost use Rattle.query_lang.specs.Replies.{bye_text, cut_text, loaded_text, refused_text};
-ghost use Rattle.query_lang.specs.Reports.{reply_text};
-ghost use Rattle.query_lang.specs.Requests.{IsReported};
+ghost use Rattle.path_minimum.specs.Ladders.{IsLadderOf};
+ghost use Rattle.query_lang.specs.Replies.{bye_text, loaded_text, refused_text};
+ghost use Rattle.query_lang.specs.Reports.{IsReport};
+ghost use Rattle.query_lang.specs.Requests.{IsOf, IsReported};
 ghost use Rattle.wires.specs.Beside.{nothing_beside};
 
 use crate::Request;
-use crate::replies::{write_bye, write_cut, write_loaded, write_refusal, write_reply};
-use cut_model::{Network, NoMemory, Side};
+use crate::replies::{write_bye, write_loaded, write_refusal};
+use crate::reports::write_reply;
+use cut_model::{Network, NoMemory};
 use network_text::Sheet;
+use path_minimum::{Ladder, PathRoom};
 use std::alloc::Global;
 use std::marker::Model;
 use tree_state::Finished;
@@ -106,35 +109,27 @@ pub fn loaded_reply(buffer: &mut ReplyBuffer, version: u32, net: &Network)
     write_loaded(version, net, gathered).unwrap();
 }
 
-/// Gathers the reply to a cut, in place of what the buffer had: its value, and the names of the
-/// routers of the side.
-pub fn cut_reply(buffer: &mut ReplyBuffer, version: u32, value: u64, sheet: &Sheet, side: &Side)
-    requires { length side.now ≡ length sheet.now.names }
-    ensures { buffer.new ≡ cut_text version value sheet.now.names side.now }
-{
-    prove!(sheet.net().routers() <= 1024);
-    let gathered = &mut buffer.gathered;
-    gathered.bytes.clear();
-    write_cut(version, value, sheet, side, gathered).unwrap();
-}
-
-/// Gathers the reply to TREE, RUN or NET, in place of what the buffer had.
+/// Gathers the reply to CUT, PATH, TREE, RUN, NET or WEAKEST, in place of what the buffer had.
 pub fn report_reply(
     buffer: &mut ReplyBuffer,
     version: u32,
     sheet: &Sheet,
     finished: &Finished,
+    ladder: &Ladder,
     request: &Request,
+    room: &mut PathRoom,
 )
     requires reported { IsReported request.now }
+    requires of { IsOf (Some sheet.now) request.now }
     requires same { finished.now.net ≡ sheet.now.net }
-    ensures { buffer.new ≡ reply_text version sheet.now finished.now request.now }
+    requires ladder { IsLadderOf finished.now ladder.now }
+    ensures { IsReport version sheet.now finished.now request.now buffer.new }
 {
     prove!(sheet.net().links().len() <= 8192);
     prove!(finished.commits() < 1024);
     let gathered = &mut buffer.gathered;
     gathered.bytes.clear();
-    write_reply(version, sheet, finished, request, gathered).unwrap();
+    write_reply(version, sheet, finished, ladder, request, room, gathered).unwrap();
 }
 
 /// Gathers the reply to the line that ends a session, in place of what the buffer had.

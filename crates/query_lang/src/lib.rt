@@ -7,11 +7,15 @@
 #![tactic(auto)]
 
 mod buffer;
+mod cuts;
 mod replies;
+mod reports;
 mod request;
 #[cfg(test)]
 mod tests;
+mod trees;
 
-pub use buffer::{ReplyBuffer, bye_reply, cut_reply, loaded_reply, refusal_reply, report_reply};
-pub use replies::{write_bye, write_cut, write_head, write_loaded, write_refusal, write_reply};
+pub use buffer::{ReplyBuffer, bye_reply, loaded_reply, refusal_reply, report_reply};
+pub use replies::{write_bye, write_head, write_loaded, write_refusal};
+pub use reports::write_reply;
 pub use request::{Request, RequestFault, parse_request};

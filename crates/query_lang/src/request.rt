@@ -2,8 +2,8 @@
 ghost use Rattle.std.specs.Prelude.{◌≡◌, IfOk, Some};
 ghost use Rattle.std.specs.Option.{option_copied};
 ghost use Rattle.network_text.specs.Sheets.{number_of};
-ghost use Rattle.query_lang.specs.Requests.{IsOf, alone, cut_between, cut_of, fault_number, of_network, request_of};
-ghost use Rattle.query_lang.specs.Requests.{words_ask};
+ghost use Rattle.query_lang.specs.Requests.{AreEnds, HasEnds, IsOf, alone, ends_between, ends_of};
+ghost use Rattle.query_lang.specs.Requests.{fault_number, of_network, request_of, weakest_of, words_ask};
 ghost use Rattle.text_forms.specs.Words.{words_of};
 
 use network_text::Sheet;
@@ -17,21 +17,26 @@ pub enum Request {
     Nothing,
     /// A network text follows.
     Load,
-    /// The least cut between two routers, by their numbers. The two differ, and both are routers of
+    /// The least cut between two routers, by their numbers. The two differ, and both are terminals of
     /// the sheet with which the line was parsed.
     Cut(u32, u32),
+    /// The path between two such routers in the tree.
+    Path(u32, u32),
     /// The tree of the network.
     Tree,
     /// The commits that made the tree, in their order.
     Run,
     /// The network.
     Net,
+    /// The weakest edge of the tree, and so the least cut of the whole network, which has two terminals
+    /// or more.
+    Weakest,
     /// The end of the session.
     Bye,
 }
 
 /// Why a request line is refused. The first applies in this order: `LineTooLong`, `UnknownWord`,
-/// `WrongCount`, `NoNetwork`, `UnknownRouter`, `SameRouter`.
+/// `WrongCount`, `NoNetwork`, `UnknownRouter`, `SameRouter`, `OneRouter`.
 #[derive(Clone, Copy, PartialEq, Eq, Debug, Error)]
 pub enum RequestFault {
     /// The first word is no request word.
@@ -52,6 +57,9 @@ pub enum RequestFault {
     /// There is no network yet.
     #[error("no network yet")]
     NoNetwork,
+    /// The network has one terminal alone, so no cut.
+    #[error("only one router")]
+    OneRouter,
 }
 
 impl RequestFault {
@@ -66,6 +74,7 @@ impl RequestFault {
             RequestFault::UnknownRouter => 4,
             RequestFault::SameRouter => 5,
             RequestFault::NoNetwork => 6,
+            RequestFault::OneRouter => 8,
         }
     }
 }
@@ -101,13 +110,19 @@ fn parse_words(text: &[u8], sheet: Option<&Sheet>) -> Result<Request, RequestFau
     if word == b"LOAD".as_slice() {
         parse_alone(Request::Load, behind)
     } else if word == b"CUT".as_slice() {
-        parse_cut(behind, sheet)
+        let (a, b) = parse_ends(behind, sheet)?;
+        Ok(Request::Cut(a, b))
+    } else if word == b"PATH".as_slice() {
+        let (a, b) = parse_ends(behind, sheet)?;
+        Ok(Request::Path(a, b))
     } else if word == b"TREE".as_slice() {
         parse_of_network(Request::Tree, behind, sheet)
     } else if word == b"RUN".as_slice() {
         parse_of_network(Request::Run, behind, sheet)
     } else if word == b"NET".as_slice() {
         parse_of_network(Request::Net, behind, sheet)
+    } else if word == b"WEAKEST".as_slice() {
+        parse_weakest(behind, sheet)
     } else if word == b"BYE".as_slice() {
         parse_alone(Request::Bye, behind)
     } else {
@@ -140,21 +155,34 @@ fn parse_of_network(
     Ok(request)
 }
 
-/// What the words behind `CUT` ask for.
-fn parse_cut(text: &[u8], sheet: Option<&Sheet>) -> Result<Request, RequestFault>
-    ensures value { result ≡ cut_of (option_copied sheet.entry) (words_of text.now) }
+/// What stands behind `WEAKEST` asks for.
+fn parse_weakest(text: &[u8], sheet: Option<&Sheet>) -> Result<Request, RequestFault>
+    ensures value { result ≡ weakest_of (option_copied sheet.entry) (words_of text.now) }
     ensures of { IfOk result (IsOf (option_copied sheet.entry)) }
+{
+    let request = parse_alone(Request::Weakest, text)?;
+    let sheet = sheet.ok_or(RequestFault::NoNetwork)?;
+    if sheet.net().terminals() < 2 {
+        return Err(RequestFault::OneRouter);
+    }
+    Ok(request)
+}
+
+/// The two routers that the words behind `CUT` or `PATH` name.
+fn parse_ends(text: &[u8], sheet: Option<&Sheet>) -> Result<(u32, u32), RequestFault>
+    ensures value { result ≡ ends_of (option_copied sheet.entry) (words_of text.now) }
+    ensures of { IfOk result (λ ends. HasEnds (option_copied sheet.entry) ends.0 ends.1) }
 {
     let (first, second) = two_words(text).ok_or(RequestFault::WrongCount)?;
     let sheet = sheet.ok_or(RequestFault::NoNetwork)?;
     find_ends(sheet, first, second)
 }
 
-/// The cut between two routers by their names.
-fn find_ends(sheet: &Sheet, first: &[u8], second: &[u8]) -> Result<Request, RequestFault>
+/// Two terminals by their names.
+fn find_ends(sheet: &Sheet, first: &[u8], second: &[u8]) -> Result<(u32, u32), RequestFault>
     ensures value { result
-        ≡ cut_between (number_of sheet.now.names first.now) (number_of sheet.now.names second.now) }
-    ensures of { IfOk result (IsOf (Some sheet.now)) }
+        ≡ ends_between (number_of sheet.now.names first.now) (number_of sheet.now.names second.now) }
+    ensures of { IfOk result (λ ends. AreEnds sheet.now ends.0 ends.1) }
 {
     let a = sheet.number_of(first).ok_or(RequestFault::UnknownRouter)?;
     let b = sheet.number_of(second).ok_or(RequestFault::UnknownRouter)?;
@@ -162,5 +190,5 @@ fn find_ends(sheet: &Sheet, first: &[u8], second: &[u8]) -> Result<Request, Requ
     if a == b {
         return Err(RequestFault::SameRouter);
     }
-    Ok(Request::Cut(a, b))
+    Ok((a, b))
 }

@@ -1,19 +1,23 @@
 -- The definition of a session's answers on small sessions.
-use Rattle.std.proofs.Common.{◌≡◌, List, [], ◌∷◌, Ok, Err, true, false, refl, inl, codes, arith}
+use Rattle.std.proofs.Common.{◌≡◌, ℕ, zero, suc, ◌<◌, List, [], ◌∷◌, Ok, Err, true, false, refl, ap, inl, codes, arith}
 use Rattle.std.specs.Fmt.{digits}
 use Rattle.cut_model.specs.Cuts.{IsLeastCut, set_of, cut_value}
 use Rattle.cut_model.specs.Net.{Net}
 use Rattle.cut_model.specs.Terminals.{is_terminal, number_in, root_of}
+use Rattle.cut_model.proofs.Terminals.{terminal-lt}
 use Rattle.network_text.specs.Sheets.{SheetView}
 use Rattle.network_text.specs.Texts.{verdict_of}
 use Rattle.network_text.specs.declared.fault.TextKind.TheVariants.{UnknownWord, NoTerminal, EndedEarly}
 use Rattle.session.specs.Answers.{Alone, Answers, IsTold}
 use Rattle.query_lang.specs.Replies.{loaded_text, bye_text, refused_text, cut_text}
+use Rattle.query_lang.specs.Reports.{IsCutReport}
 use Rattle.query_lang.specs.Trees.{tree_text}
 use Rattle.text_forms.specs.Items.{Item, Ask, Load, Bye, items_of}
+use Rattle.tree_state.specs.Growing.{GrowingView, up_of, width_of}
 use Rattle.tree_state.specs.History.{tables}
-use Rattle.tree_state.specs.Tables.{up_after, width_after}
-use Rattle.tree_versions.specs.Records.{RecordView}
+use Rattle.tree_state.specs.Paths.{IsLeastEdge, IsOnPath, side_for}
+use Rattle.tree_state.specs.Tables.{some_up, up_after, width_after}
+use Rattle.tree_versions.specs.Records.{RecordView, tree_of}
 
 -- two routers and a link of 5
 abbrev pair : Net
@@ -59,6 +63,45 @@ made = record {
       [];
 }
 
+-- its tree: the second router hangs from the first one by an edge of 5
+abbrev tree : GrowingView
+tree = tree_of made
+
+-- the path of the two has that one edge
+only_edge : (e : ℕ) → IsOnPath pair (up_of tree) 0 1 e → e ≡ 1
+unfolding tables up_after root_of some_up
+only_edge zero on_path = absurd (let p : false ≡ true = on_path.parting in cc)
+only_edge (suc zero) on_path = refl
+only_edge (suc (suc e)) on_path = absurd (omega (arith, terminal-lt pair (suc (suc e)) on_path.terminal))
+
+-- so it is the least
+least_edge : IsLeastEdge pair (up_of tree) (width_of tree) 0 1 1
+unfolding is_terminal tables up_after root_of some_up
+least_edge = record {
+  on_path = record { terminal = refl; parting = refl };
+  least = λ e on_path. omega (arith, ap (width_of tree) (only_edge e on_path));
+  first = λ e on_path same. omega (arith, only_edge e on_path);
+}
+
+-- and its side that holds the first router is that router alone
+side_shown : (r : ℕ) → r < 2 → set_of (true ∷ false ∷ []) r ≡ side_for 2 (up_of tree) 0 1 r
+unfolding tables up_after root_of some_up
+side_shown zero low = refl
+side_shown (suc zero) low = refl
+side_shown (suc (suc r)) low = absurd (omega arith)
+
+-- the reply to a CUT of the two
+cut_reply : IsCutReport 1 sheet tree 0 1 (codes "@1 CUT 5 side a\n")
+unfolding cut_text tables up_after width_after root_of digits
+cut_reply = record {
+  child = 1;
+  least_edge = least_edge;
+  side = true ∷ false ∷ [];
+  side_is = record { size = refl; shows = side_shown };
+  least = least;
+  text_is = refl;
+}
+
 -- a reply by version 1 that publishes nothing
 by_first : (P : Type 0) → P → IsTold true (made ∷ []) 1 1 0 P
 by_first P told = record {
@@ -98,7 +141,7 @@ answered = record {
       next = 1;
       loaded = 0;
       others = 0;
-      step = by_first _ (record { side = true ∷ false ∷ []; value = 5; size = refl; least = least; text = refl });
+      step = by_first _ cut_reply;
       joins = refl;
       sum = refl;
       on = record {
@@ -107,7 +150,7 @@ answered = record {
         next = 1;
         loaded = 0;
         others = 0;
-        step = by_first _ (tt, refl);
+        step = by_first _ refl;
         joins = refl;
         sum = refl;
         on = record {

@@ -2,13 +2,12 @@
 use Rattle.std.proofs.Common.{◌≡◌, ℕ, ◌≤◌, List, [], ◌∷◌, length, Bool, true, false, None, Some, refl, sym}
 use Rattle.std.proofs.Common.{ap, ◌∙◌, arith, subst, Result, Ok, Err}
 use Rattle.std.specs.declared.option.Option.{Option}
-use Rattle.network_text.specs.Sheets.{SheetView}
 use Rattle.query_lang.specs.Replies.{bye_text}
 use Rattle.query_lang.specs.Requests.{request_of}
 use Rattle.query_lang.specs.declared.request.Request.{Request}
-use Rattle.query_lang.specs.declared.request.Request.TheVariants.{Nothing, Load, Cut, Tree, Run, Net, Bye}
+use Rattle.query_lang.specs.declared.request.Request.TheVariants.{Nothing, Load, Cut, Path, Tree, Run, Net, Weakest, Bye}
 use Rattle.query_lang.specs.declared.request.RequestFault.{RequestFault}
-use Rattle.query_lang.proofs.RequestKinds.{IsKind, IsOther, asks_other, request_kind}
+use Rattle.query_lang.proofs.RequestKinds.{IsOther, answer_kind, other_asks}
 use Rattle.session.specs.Answers.{IsReply, RepliesTo, Step, sheet_in}
 use Rattle.session.specs.Modes.{next_text, gives, Gives}
 use Rattle.session.specs.Taking.{Holds, IsTaken, IsByeTaken}
@@ -19,51 +18,29 @@ use Rattle.text_forms.specs.Words.{is_passed, is_load, is_bye}
 use Rattle.tree_versions.specs.Records.{RecordView, record_at}
 use Rattle.tree_versions.specs.Shelves.{Looks}
 
--- a line that asks something of a record
-pub record IsAsk (line : List ℕ) : Type 0 where
-  pub passed : is_passed line ≡ false
-  pub load : is_load line ≡ false
-  pub bye : is_bye line ≡ false
-
--- what an answer says of its line
-kind : (sheet : Option SheetView) (line : List ℕ) (answer : Result Request RequestFault)
-    → answer ≡ request_of sheet line → IsKind answer (is_passed line) (is_load line) (is_bye line)
-kind sheet line answer is =
-    subst (λ (a : Result Request RequestFault). IsKind a (is_passed line) (is_load line) (is_bye line)) (sym is)
-    (request_kind sheet line)
-
--- a line that is answered from a record, or refused, asks something
-asks : (sheet : Option SheetView) (line : List ℕ) (answer : Result Request RequestFault) → IsOther answer
-    → answer ≡ request_of sheet line → IsAsk line
-asks sheet line answer other is =
-    let none = (asks_other sheet line).0 (subst IsOther is other) in
-    record { passed = none.0; load = none.1; bye = none.2 }
-
 -- what is replied to is answered from a record, or refused
 replied_other : (seen : Option RecordView) (version : ℕ) (answer : Result Request RequestFault) (reply : List ℕ)
     → RepliesTo seen version answer reply → IsOther answer
 replied_other seen version (Err fault) reply replies = tt
 replied_other None version (Ok request) reply replies = absurd replies
 replied_other (Some seen) version (Ok (Cut a b)) reply replies = tt
+replied_other (Some seen) version (Ok (Path a b)) reply replies = tt
 replied_other (Some seen) version (Ok Tree) reply replies = tt
 replied_other (Some seen) version (Ok Run) reply replies = tt
 replied_other (Some seen) version (Ok Net) reply replies = tt
-replied_other (Some seen) version (Ok request) reply replies = absurd replies.0
+replied_other (Some seen) version (Ok Weakest) reply replies = tt
+replied_other (Some seen) version (Ok request) reply replies = absurd replies
 
 module _ (alone : Bool) (old new : List RecordView) (own own2 : ℕ) (few : length new ≤ 256)
     (looks : Looks alone old new) (kept : own2 ≡ own) (version : ℕ) (seen : Option RecordView)
     (last : version ≡ length new) (shows : seen ≡ record_at new version) (intake : Intake) (line : List ℕ) where
-  -- the item of an ask
-  ask_gives : IsAsk line → gives None line ≡ Ask line ∷ []
-  ask_gives ask = rw (ask.passed, ask.load) refl
-
   -- a line that is answered from a record, or refused, was taken
   pub asked_taken : (answer : Result Request RequestFault) (reply : List ℕ) → Holds intake None
       → answer ≡ request_of (sheet_in seen) line → RepliesTo seen version answer reply
       → IsTaken alone old own new own2 None intake line reply
   asked_taken answer reply holds is replies = record {
-    quiet = λ none passed load. ask.bye;
-    given = subst (λ (items : List Item). Gives alone old own items reply new own2) (sym (ask_gives ask))
+    quiet = λ none passed load. asks.2;
+    given = subst (λ (items : List Item). Gives alone old own items reply new own2) (sym gives_is)
         (Gives-one alone old new own own2 (Ask line) reply 0 (omega (arith, kept))
         (look_leads alone old new own own2 few looks kept
         (λ seen next. Step alone new seen (Ask line) reply next 0)
@@ -71,11 +48,14 @@ module _ (alone : Bool) (old new : List RecordView) (own own2 : ℕ) (few : leng
     holds = subst (λ (text : Option (List (List ℕ))). Holds intake text) (sym next_is) holds;
   }
     where
-      ask : IsAsk line
-      ask = asks (sheet_in seen) line answer (replied_other seen version answer reply replies) is
+      asks : (is_passed line ≡ false) × (is_load line ≡ false) × (is_bye line ≡ false)
+      asks = other_asks (sheet_in seen) line answer (sym is) (replied_other seen version answer reply replies)
+
+      gives_is : gives None line ≡ Ask line ∷ []
+      gives_is = rw (asks.0, asks.1) refl
 
       next_is : next_text None line ≡ None
-      next_is = rw (ask.passed, ask.load) refl
+      next_is = rw (asks.0, asks.1) refl
 
       from_seen : IsReply seen version line reply
       from_seen = subst (λ (a : Result Request RequestFault). RepliesTo seen version a reply) is replies
@@ -88,7 +68,7 @@ module _ (alone : Bool) (old new : List RecordView) (own own2 : ℕ) (few : leng
   pub passed_taken : Holds intake None → Ok Nothing ≡ request_of (sheet_in seen) line
       → IsTaken alone old own new own2 None intake line []
   passed_taken holds is =
-      let passed : is_passed line ≡ true = kind (sheet_in seen) line (Ok Nothing) is in
+      let passed : is_passed line ≡ true = answer_kind (sheet_in seen) line (Ok Nothing) (sym is) in
       let gives_is : gives None line ≡ [] = rw passed refl in
       let next_is : next_text None line ≡ None = rw passed refl in record {
         quiet = λ none unpassed load. absurd (let e : true ≡ false = sym passed ∙ unpassed in cc);
@@ -101,7 +81,7 @@ module _ (alone : Bool) (old new : List RecordView) (own own2 : ℕ) (few : leng
   pub load_taken : Holds intake (Some []) → Ok Load ≡ request_of (sheet_in seen) line
       → IsTaken alone old own new own2 None intake line []
   load_taken holds is =
-      let k = kind (sheet_in seen) line (Ok Load) is in
+      let k = answer_kind (sheet_in seen) line (Ok Load) (sym is) in
       let gives_is : gives None line ≡ [] = rw (k.0, k.1) refl in
       let next_is : next_text None line ≡ Some [] = rw (k.0, k.1) refl in record {
         quiet = λ none unpassed unload. absurd (let e : true ≡ false = sym k.1 ∙ unload in cc);
@@ -114,7 +94,7 @@ module _ (alone : Bool) (old new : List RecordView) (own own2 : ℕ) (few : leng
   pub bye_taken : (reply : List ℕ) → Ok Bye ≡ request_of (sheet_in seen) line → reply ≡ bye_text version
       → IsByeTaken alone old own new own2 None line reply
   bye_taken reply is text =
-      let k = kind (sheet_in seen) line (Ok Bye) is in record {
+      let k = answer_kind (sheet_in seen) line (Ok Bye) (sym is) in record {
         between = refl;
         bye = record { passed = k.0; load = k.1; bye = k.2 };
         given = Gives-one alone old new own own2 ByeItem reply 0 (omega (arith, kept))

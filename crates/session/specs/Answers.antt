@@ -2,38 +2,22 @@
 use Rattle.std.specs.Prelude.{◌≡◌, ℕ, ◌+◌, ◌<◌, ◌≤◌, ◌⊎◌, List, [], ◌∷◌, ◌++◌, Bool, true, length, Some, None}
 use Rattle.std.specs.Prelude.{Result, Ok, Err}
 use Rattle.std.specs.declared.option.Option.{Option}
-use Rattle.cut_model.specs.Cuts.{IsLeastCut, set_of}
 use Rattle.network_text.specs.Faults.{kind_number}
 use Rattle.network_text.specs.Sheets.{SheetView}
 use Rattle.network_text.specs.Texts.{verdict_of}
 use Rattle.network_text.specs.declared.fault.TextFault.{TextFault}
-use Rattle.query_lang.specs.Requests.{IsReported, request_of, fault_number}
-use Rattle.query_lang.specs.Replies.{loaded_text, bye_text, refused_text, cut_text}
-use Rattle.query_lang.specs.Reports.{reply_text}
+use Rattle.query_lang.specs.Requests.{request_of, fault_number}
+use Rattle.query_lang.specs.Replies.{loaded_text, bye_text, refused_text}
+use Rattle.query_lang.specs.Reports.{IsReport}
 use Rattle.query_lang.specs.declared.request.Request.{Request}
-use Rattle.query_lang.specs.declared.request.Request.TheVariants.{Cut}
 use Rattle.query_lang.specs.declared.request.RequestFault.{RequestFault}
 use Rattle.text_forms.specs.Items.{Item, Ask, Load, Bye}
 use Rattle.tree_versions.specs.Records.{RecordView, record_at, tree_of}
 
--- a reply that prints a least cut of routers a and b, whichever it is
-pub record IsCutReply (sheet : SheetView) (version a b : ℕ) (reply : List ℕ) : Type 0 where
-  pub side : List Bool
-  pub value : ℕ
-  pub size : length side ≡ sheet.net.routers
-  pub least : IsLeastCut sheet.net a b (set_of side) value
-  pub text : reply ≡ cut_text version value sheet.names side
-
--- a reply from a record to what a request line asks for: a least cut, or what the record's network, tree or history is
-abbrev pub RepliesFrom : RecordView → ℕ → Request → List ℕ → Type 0
-RepliesFrom seen version (Cut a b) reply = IsCutReply seen.sheet version a b reply
-RepliesFrom seen version request reply =
-    IsReported request × (reply ≡ reply_text version seen.sheet (tree_of seen) request)
-
--- the reply to a request line: its refusal, or a reply from the record of the version
+-- the reply to a request line: its refusal, or what the record of the version answers
 abbrev pub RepliesTo : Option RecordView → ℕ → Result Request RequestFault → List ℕ → Type 0
 RepliesTo seen version (Err fault) reply = reply ≡ refused_text version (fault_number fault) None
-RepliesTo (Some seen) version (Ok request) reply = RepliesFrom seen version request reply
+RepliesTo (Some seen) version (Ok request) reply = IsReport version seen.sheet (tree_of seen) request reply
 RepliesTo None version (Ok request) reply = ⊥
 
 -- the sheet of a record

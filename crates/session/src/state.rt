@@ -7,7 +7,7 @@ ghost use Rattle.std.specs.declared.option.Option.{Option};
 ghost use Rattle.network_text.specs.Texts.{verdict_of};
 ghost use Rattle.query_lang.specs.Replies.{loaded_text, refused_text};
 ghost use Rattle.query_lang.specs.Requests.{IsOf, IsReported};
-ghost use Rattle.session.specs.Answers.{IsCutReply, IsTextRefusal, RepliesTo, sheet_in};
+ghost use Rattle.session.specs.Answers.{IsTextRefusal, RepliesTo, sheet_in};
 ghost use Rattle.session.specs.Modes.{Closing, Loads};
 ghost use Rattle.session.specs.Taking.{HasRead, Holds, LineTaken, is_stale, lines_in};
 ghost use Rattle.tree_versions.specs.Records.{RecordView, record_at};
@@ -15,12 +15,12 @@ ghost use Rattle.tree_versions.specs.Shelves.{Looks};
 
 use crate::build::build_tree;
 use crate::intake::{Intake, Taken};
-use cut_model::{Network, NoMemory, Side};
+use cut_model::NoMemory;
 use dinic_flow::FlowDesk;
 use network_text::{Fed, Reader, Sheet, TextFault, TextKind};
+use path_minimum::PathRoom;
 use query_lang::{
-    ReplyBuffer, Request, bye_reply, cut_reply, loaded_reply, parse_request, refusal_reply,
-    report_reply,
+    ReplyBuffer, Request, bye_reply, loaded_reply, parse_request, refusal_reply, report_reply,
 };
 use std::alloc::Global;
 use std::mem;
@@ -45,6 +45,7 @@ const OUT_OF_MEMORY: u32 = 90;
 pub struct State {
     pub intake: Intake,
     pub reply: ReplyBuffer,
+    room: PathRoom,
     desk: FlowDesk,
     ghost desk_room: { desk.room ≡ record { routers = 1024; links = 8192 } },
     ghost unended: { is_stale intake ≡ false },
@@ -84,32 +85,9 @@ fn begin_text(alloc: Global) -> Intake
     }
 }
 
-/// Makes the reply to a CUT of two routers of a record, by a flow of its own. The side is the least one.
-fn answer_cut(
-    desk: &mut FlowDesk,
-    reply: &mut ReplyBuffer,
-    version: u32,
-    seen: &Record,
-    a: u32,
-    b: u32,
-)
-    requires differ { a ≢ b }
-    requires a { a < seen.now.sheet.net.routers }
-    requires b { b < seen.now.sheet.net.routers }
-    requires room { desk.old.room ≡ record { routers = 1024; links = 8192 } }
-    ensures reply { IsCutReply seen.now.sheet version a b reply.new }
-    ensures room { desk.new.room ≡ desk.old.room }
-{
-    let sheet = seen.sheet();
-    let net: &Network = sheet.net();
-    let mut side = Side::empty(net.routers());
-    let value = desk.least_cut_uncounted(net, a, b, &mut side);
-    cut_reply(reply, version, value, sheet, &side);
-}
-
 impl State {
-    /// The state between two items, with the room for one reply and for the flows of the largest
-    /// network.
+    /// The state between two items, with the room for one reply, for the longest path and for the flows
+    /// by which the tree of the largest network is built.
     ///
     /// # Errors
     /// [`NoMemory`] where the memory of one of these can't be had.
@@ -119,6 +97,7 @@ impl State {
         Ok(State {
             intake: Intake::Between,
             reply: ReplyBuffer::make(alloc)?,
+            room: PathRoom::make(alloc)?,
             desk: FlowDesk::with_room(alloc, MOST_ROUTERS, MOST_LINKS)?,
         })
     }
@@ -194,10 +173,6 @@ impl State {
                 self.intake = begin_text(alloc);
                 Taken::Silent
             }
-            Ok(Request::Cut(a, b)) => {
-                self.cut(version, seen, a, b);
-                Taken::Reply
-            }
             Ok(Request::Bye) => {
                 bye_reply(&mut self.reply, version);
                 Taken::Bye
@@ -213,19 +188,7 @@ impl State {
         }
     }
 
-    /// Makes the reply to a CUT of two routers of a record.
-    fn cut(&mut self, version: u32, seen: Option<&Record>, a: u32, b: u32)
-        requires ends { IsOf (sheet_in (option_copied seen)) (Request.Cut a b) }
-        ensures reply { RepliesTo (option_copied seen.entry) version (Ok (Request.Cut a b)) self.new.reply }
-        ensures intake { self.new.intake ≡ self.old.intake }
-    {
-        let Some(record) = seen else {
-            unreachable!();
-        };
-        answer_cut(&mut self.desk, &mut self.reply, version, record, a, b);
-    }
-
-    /// Makes the reply that tells the network, the tree or the run of a record.
+    /// Makes the reply that is read from a record: from its network, its tree and its run.
     fn report(&mut self, version: u32, seen: Option<&Record>, request: &Request)
         requires reported { IsReported request.now }
         requires of { IsOf (sheet_in (option_copied seen)) request.now }
@@ -235,8 +198,15 @@ impl State {
         let Some(record) = seen else {
             unreachable!();
         };
-        let sheet = record.sheet();
-        report_reply(&mut self.reply, version, sheet, record.finished(), request);
+        report_reply(
+            &mut self.reply,
+            version,
+            record.sheet(),
+            record.finished(),
+            record.ladder(),
+            request,
+            &mut self.room,
+        );
     }
 
     /// Takes a line of a text that is read.
@@ -357,11 +327,8 @@ impl State {
             → self.new.reply ≡ loaded_text version made.sheet.net }
         ensures intake { self.new.intake ≡ self.old.intake }
     {
-        loaded_reply(
-            &mut self.reply,
-            version,
-            shelf.record_at(version).sheet().net(),
-        );
+        let made = shelf.record_at(version);
+        loaded_reply(&mut self.reply, version, made.sheet().net());
     }
 
     /// Makes the reply that is owed where the input ends, and says whether one is.

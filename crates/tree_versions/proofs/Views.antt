@@ -4,11 +4,10 @@ use Rattle.std.proofs.Common.{◌∙◌, ◌≤◌, arith, length-append, subst}
 use Rattle.std.proofs.lemmas.List.Elements.{All-push}
 use Rattle.std.specs.Arc.{arc_value}
 use Rattle.std.specs.Option.{option_map}
-use Rattle.std.specs.Prelude.{slice_get, slice_index_or}
+use Rattle.std.specs.Prelude.{All, slice_get, slice_index_or}
 use Rattle.std.specs.declared.alloc.Global.{Global}
 use Rattle.std.specs.declared.sync.Arc.{Arc}
-use Rattle.tree_state.specs.History.{IsComplete}
-use Rattle.tree_versions.specs.Records.{AreFinished, RecordView, record_at}
+use Rattle.tree_versions.specs.Records.{RecordView, record_at}
 use Rattle.tree_versions.specs.Shelves.{Stands}
 use Rattle.tree_versions.specs.Solo.{views_of, length-views}
 
@@ -87,11 +86,9 @@ pub few_more : (records new : List (Arc RecordView Global)) (added : Arc RecordV
     → new ≡ records ++ added ∷ [] → length records < 256 → length new ≤ 256
 few_more records new added is low = omega (arith, ap length is, length-append records (added ∷ []))
 
--- and finished where the one that was added is
-pub finished_more : (records new : List (Arc RecordView Global)) (added : Arc RecordView Global)
-    → new ≡ records ++ added ∷ [] → AreFinished (views_of records)
-    → IsComplete (arc_value added).sheet.net (arc_value added).history → AreFinished (views_of new)
-finished_more records new added is finished complete =
-    subst AreFinished (sym (ap views_of is ∙ views-push records added))
-    (All-push (λ (r : RecordView). IsComplete r.sheet.net r.history) (views_of records) (arc_value added) finished
-    complete)
+-- what holds of each record still does where it holds of the one that was added
+pub all_more : (P : RecordView → Type 0) (records new : List (Arc RecordView Global)) (added : Arc RecordView Global)
+    → new ≡ records ++ added ∷ [] → All P (views_of records) → P (arc_value added) → All P (views_of new)
+all_more P records new added is all one =
+    subst (λ (v : List RecordView). All P v) (sym (ap views_of is ∙ views-push records added))
+    (All-push P (views_of records) (arc_value added) all one)

@@ -1,8 +1,10 @@
 -- Records: networks that were published, each with the run that made its tree.
 use Rattle.std.specs.Prelude.{◌≡◌, ℕ, zero, suc, List, ◌++◌, slice_get, All, None}
 use Rattle.std.specs.declared.option.Option.{Option}
+use Rattle.cut_model.specs.Net.{Net}
 use Rattle.network_text.specs.Sheets.{SheetView}
-use Rattle.tree_state.specs.Growing.{GrowingView}
+use Rattle.path_minimum.specs.Ladders.{IsLadderOf}
+use Rattle.tree_state.specs.Growing.{GrowingView, HoldsCutTree}
 use Rattle.tree_state.specs.History.{IsComplete}
 use Rattle.tree_state.specs.declared.entry.Entry.{Entry}
 
@@ -15,9 +17,21 @@ pub record RecordView : Type 0 where
 abbrev pub tree_of : RecordView → GrowingView
 tree_of seen = record { net = seen.sheet.net; history = seen.history }
 
+-- A network, a finished tree and a ladder belong together: the tree is one of this network, with a complete run and
+-- least cuts, and the ladder was made for it.
+pub record BelongTogether (net : Net) (tree : GrowingView) (ladder : List ℕ) : Type 0 where
+  pub same : tree.net ≡ net
+  pub complete : IsComplete tree.net tree.history
+  pub cuts : HoldsCutTree tree
+  pub rungs : IsLadderOf tree ladder
+
 -- Each record holds a complete history of its own network.
 abbrev pub AreFinished : List RecordView → Type 0
 AreFinished records = All (λ (r : RecordView). IsComplete r.sheet.net r.history) records
+
+-- The tree of each record is a cut tree of its own network.
+abbrev pub AreCutTrees : List RecordView → Type 0
+AreCutTrees records = All (λ (r : RecordView). HoldsCutTree (tree_of r)) records
 
 -- The record of a version: they are counted from 1, and version 0 has none.
 abbrev pub record_at : List RecordView → ℕ → Option RecordView

@@ -1,7 +1,7 @@
 //! What a shelf of records is.
 ghost use Rattle.std.specs.Prelude.{◌≡◌, ℕ, ◌<◌, ◌≤◌, List, Bool, Some, length};
 ghost use Rattle.std.specs.Arc.{arc_value};
-ghost use Rattle.tree_versions.specs.Records.{AreFinished, RecordView, record_at as at_version};
+ghost use Rattle.tree_versions.specs.Records.{AreCutTrees, AreFinished, RecordView, record_at as at_version};
 ghost use Rattle.tree_versions.specs.Shelves.{Looks, Publishes};
 
 use crate::Record;
@@ -36,6 +36,9 @@ pub trait Shelf {
 
     /// Each record that is seen holds a complete run over its own network.
     ghost runs: { (shelf : Self) → AreFinished (seen shelf) };
+
+    /// The tree of each record that is seen is a cut tree.
+    ghost trees: { (shelf : Self) → AreCutTrees (seen shelf) };
 
     /// Sees what others have published, and tells how many records are seen.
     fn look(&mut self) -> u32

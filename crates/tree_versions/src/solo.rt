@@ -1,7 +1,7 @@
 //! A shelf that nobody else has.
 ghost use Rattle.std.specs.Prelude.{◌≡◌, ◌≤◌, [], IfOk, length, vec_capacity};
-ghost use Rattle.tree_versions.specs.Facts.{finished_is_fact};
-ghost use Rattle.tree_versions.specs.Records.{AreFinished};
+ghost use Rattle.tree_versions.specs.Facts.{finished_is_fact, trees_are_fact};
+ghost use Rattle.tree_versions.specs.Records.{AreCutTrees, AreFinished};
 ghost use Rattle.tree_versions.specs.Solo.{views_of};
 
 use crate::{PublishFault, Record, Shelf};
@@ -18,6 +18,7 @@ pub struct SoloShelf {
     records: Vec<Arc<Record>>,
     ghost few: { length records.items ≤ 256 },
     ghost runs: { AreFinished (views_of records.items) } by { finished_is_fact (views_of records.items) },
+    ghost trees: { AreCutTrees (views_of records.items) } by { trees_are_fact (views_of records.items) },
     ghost room: { 256 ≤ vec_capacity records },
 }
 
@@ -55,6 +56,8 @@ impl Shelf for SoloShelf {
 
     ghost runs = { λ shelf. shelf.runs };
 
+    ghost trees = { λ shelf. shelf.trees };
+
     ghost few = { λ shelf. few_views shelf.records.items shelf.few };
 
     fn look(&mut self) -> u32 {
@@ -69,7 +72,7 @@ impl Shelf for SoloShelf {
         if self.records.len() == MOST_RECORDS as usize {
             return Err(PublishFault::Full);
         }
-        // The run of the new record is over its own network, and complete.
+        // The run of the new record is over its own network and complete, and its tree a cut tree.
         prove!(new.finished().net().routers() == new.sheet().net().routers());
         self.records.push_reserved(new);
         Ok(self.records.len() as u32)

@@ -23,22 +23,39 @@ const TWO_REPLIES: &str =
     "@1 LOADED routers 2 links 1\n@1 CUT 5 side a\n@2 LOADED routers 3 links 2\n@2 CUT 2 side a\n";
 
 /// One router has a tree without an edge.
-const ONE: &str = "LOAD\nrouter a\nEND\nTREE\nRUN\n";
+const ONE: &str = "LOAD\nrouter a\nEND\nTREE\nRUN\nCUT a a\nPATH a a\nWEAKEST\n";
 
-const ONE_REPLIES: &str = "@1 LOADED routers 1 links 0\n@1 TREE 0\n@1 RUN 0\n";
+const ONE_REPLIES: &str =
+    "@1 LOADED routers 1 links 0\n@1 TREE 0\n@1 RUN 0\n@1 NO 5\n@1 NO 5\n@1 NO 8\n";
 
 /// Six routers, whose commits move routers, committed ones among them, and once take the place of the router above.
 const SIX: &str = "LOAD\nlink r0 r1 1\nlink r0 r2 7\nlink r1 r2 1\nlink r1 r3 3\nlink r1 r4 2\n\
-    link r2 r4 4\nlink r3 r4 1\nlink r3 r5 6\nlink r4 r5 2\nEND\nTREE\nRUN\n";
+    link r2 r4 4\nlink r3 r4 1\nlink r3 r5 6\nlink r4 r5 2\nEND\nTREE\nRUN\n\
+    PATH r0 r5\nPATH r5 r0\nCUT r0 r5\nCUT r1 r4\nWEAKEST\n";
 
 const SIX_REPLIES: &str = "@1 LOADED routers 6 links 9\n\
     @1 TREE 5\nr1 r4 7\nr2 r0 8\nr3 r1 6\nr4 r2 6\nr5 r3 8\n\
-    @1 RUN 5\nr1 r0 6\nr2 r0 8\nr3 r1 6\nr4 r1 7\nr5 r3 8\n";
+    @1 RUN 5\nr1 r0 6\nr2 r0 8\nr3 r1 6\nr4 r1 7\nr5 r3 8\n\
+    @1 PATH 5\nr2 r0 8\nr4 r2 6\nr1 r4 7\nr3 r1 6\nr5 r3 8\n\
+    @1 PATH 5\nr5 r3 8\nr3 r1 6\nr1 r4 7\nr4 r2 6\nr2 r0 8\n\
+    @1 CUT 6 side r0 r1 r2 r4\n@1 CUT 7 side r1 r3 r5\n@1 WEAKEST 6 side r3 r5\n";
+
+/// A star, in which each cut between two leaves cuts off one of them.
+const STAR: &str = "LOAD\nlink h a 4\nlink h b 4\nlink h c 4\nEND\nCUT a b\nCUT b a\n";
+
+const STAR_REPLIES: &str = "@1 LOADED routers 4 links 3\n@1 CUT 4 side a\n@1 CUT 4 side h b c\n";
 
 /// A ring: each router is cut off by two links.
-const RING: &str = "LOAD\nlink a b 1\nlink b c 1\nlink c d 1\nlink d a 1\nEND\nTREE\n";
+const RING: &str = "LOAD\nlink a b 1\nlink b c 1\nlink c d 1\nlink d a 1\nEND\nTREE\nCUT b d\n";
 
-const RING_REPLIES: &str = "@1 LOADED routers 4 links 4\n@1 TREE 3\nb a 2\nc a 2\nd a 2\n";
+const RING_REPLIES: &str =
+    "@1 LOADED routers 4 links 4\n@1 TREE 3\nb a 2\nc a 2\nd a 2\n@1 CUT 2 side b\n";
+
+/// Four routers, each linked to each: all edges of the tree are as wide, and the first of them is told.
+const FOUR: &str = "LOAD\nlink a b 1\nlink a c 1\nlink a d 1\nlink b c 1\nlink b d 1\nlink c d 1\n\
+    END\nWEAKEST\n";
+
+const FOUR_REPLIES: &str = "@1 LOADED routers 4 links 6\n@1 WEAKEST 3 side b\n";
 
 /// Parallel links, a self link and an empty one.
 const PARALLEL: &str = "LOAD\nlink a b 2\nlink a b 3\nlink a a 9\nlink b c 0\nlink b c 1\nEND\n\
@@ -124,7 +141,9 @@ fn replies_are_the_same_in_whatever_pieces_the_input_comes(rt: HostRuntime) -> R
         (TWO, TWO_REPLIES, 2),
         (ONE, ONE_REPLIES, 1),
         (SIX, SIX_REPLIES, 1),
+        (STAR, STAR_REPLIES, 1),
         (RING, RING_REPLIES, 1),
+        (FOUR, FOUR_REPLIES, 1),
         (PARALLEL, PARALLEL_REPLIES, 1),
         (APART, APART_REPLIES, 1),
         (TWO_FAULTS, TWO_FAULTS_REPLIES, 0),

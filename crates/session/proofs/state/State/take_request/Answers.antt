@@ -1,5 +1,4 @@
 use Rattle.std.proofs.Common.{None, Ok, Err, sym, subst}
-use Rattle.query_lang.specs.declared.request.Request.TheVariants.{Cut}
 use Rattle.session.specs.Taking.{Holds}
 use Rattle.session.specs.declared.intake.Intake.{Intake}
 use Rattle.session.proofs.Requesting.{passed_taken, load_taken, bye_taken, asked_taken}
@@ -20,16 +19,6 @@ returns-in-Ok-Load-clause-taken g c =
     c.look-version.result _
     c.look-version.ensures.count c.seen_record-seen.ensures _ c.args.line.now c.begin_text.ensures.holds
     (rw (c.in-Ok-Load.field-0-is, c.sheet_of.ensures) at c.in-Ok-Load.ensures.value)
-
-pub returns-in-Ok-Cut-clause-taken : goal.returns-in-Ok-Cut-clause-taken
-returns-in-Ok-Cut-clause-taken g c =
-    asked_taken _ _ _ _ _ (g.H.Shelf.few c.look-version.new.self) c.look-version.ensures.seen
-    c.look-version.ensures.own
-    c.look-version.result _
-    c.look-version.ensures.count c.seen_record-seen.ensures _ c.args.line.now (Ok (Cut c.in-Ok-Cut.a c.in-Ok-Cut.b))
-    c.cut.new.self.reply
-    (subst (λ (i : Intake). Holds i None) (sym c.cut.ensures.intake) c.requires.between)
-    (rw (c.in-Ok-Cut.field-0-is, c.sheet_of.ensures) at c.in-Ok-Cut.ensures.value) c.cut.ensures.reply
 
 pub returns-in-Ok-clause-taken : goal.returns-in-Ok-clause-taken
 returns-in-Ok-clause-taken g c =

@@ -1,7 +1,8 @@
 use Rattle.std.proofs.Common.{rules, ◌≡◌, ◌<◌, length, subst}
+use Rattle.tree_state.specs.Growing.{HoldsCutTree}
 use Rattle.tree_state.specs.History.{IsComplete}
-use Rattle.tree_versions.specs.Records.{RecordView}
-use Rattle.tree_versions.proofs.Views.{stands_pushed, one_more, few_more, finished_more}
+use Rattle.tree_versions.specs.Records.{RecordView, tree_of}
+use Rattle.tree_versions.proofs.Views.{stands_pushed, one_more, few_more, all_more}
 use Rattle.tree_versions.proofs.solo.SoloShelfShelf.publish.Goals as goal
 
 pub returns-clause-published : goal.returns-clause-published
@@ -19,5 +20,12 @@ invariant_of-self-clause-few c =
 
 pub invariant_of-self-clause-runs : goal.invariant_of-self-clause-runs
 invariant_of-self-clause-runs c =
-    finished_more _ _ c.args.new c.push_reserved.ensures.items c.args.self.now.runs
+    all_more (λ (r : RecordView). IsComplete r.sheet.net r.history) _ _ c.args.new c.push_reserved.ensures.items
+    c.args.self.now.runs
     (subst (λ (r : RecordView). IsComplete r.sheet.net r.history) c.deref.ensures c.finished.ensures.complete)
+
+pub invariant_of-self-clause-trees : goal.invariant_of-self-clause-trees
+invariant_of-self-clause-trees c =
+    all_more (λ (r : RecordView). HoldsCutTree (tree_of r)) _ _ c.args.new c.push_reserved.ensures.items
+    c.args.self.now.trees
+    (subst (λ (r : RecordView). HoldsCutTree (tree_of r)) c.deref.ensures c.finished.ensures.tree)

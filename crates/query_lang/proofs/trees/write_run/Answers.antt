@@ -3,7 +3,7 @@ use Rattle.std.specs.List.{concat}
 use Rattle.query_lang.specs.Replies.{head_text}
 use Rattle.query_lang.specs.Trees.{commit_line, run_text}
 use Rattle.wires.proofs.Puts.{puts_then, puts_failed}
-use Rattle.query_lang.proofs.replies.write_run.Goals as goal
+use Rattle.query_lang.proofs.trees.write_run.Goals as goal
 
 pub returns : goal.returns
 unfolding run_text

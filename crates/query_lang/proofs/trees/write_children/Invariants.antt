@@ -3,7 +3,7 @@ use Rattle.std.specs.List.{concat, range_with_len}
 use Rattle.query_lang.specs.Trees.{child_piece}
 use Rattle.wires.specs.Puts.{Puts}
 use Rattle.wires.specs.declared.faults.Failed.{Failed}
-use Rattle.query_lang.proofs.replies.write_children.Given as goal
+use Rattle.query_lang.proofs.trees.write_children.Given as goal
 
 -- The pieces of the routers so far are put.
 abbrev pub invariant-loop-router : goal.invariant-loop-router

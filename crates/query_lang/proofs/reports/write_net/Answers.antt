@@ -2,7 +2,7 @@ use Rattle.std.proofs.Common.{codes}
 use Rattle.query_lang.specs.Replies.{head_text, net_text, sheet_lines}
 use Rattle.network_text.specs.Writing.{sheet_text}
 use Rattle.wires.proofs.Puts.{puts_then, puts_failed}
-use Rattle.query_lang.proofs.replies.write_net.Goals as goal
+use Rattle.query_lang.proofs.reports.write_net.Goals as goal
 
 pub returns : goal.returns
 unfolding net_text

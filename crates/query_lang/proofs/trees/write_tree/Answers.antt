@@ -4,7 +4,7 @@ use Rattle.cut_model.specs.Terminals.{terminal_count}
 use Rattle.query_lang.specs.Replies.{head_text}
 use Rattle.query_lang.specs.Trees.{child_line, children_of, tree_text}
 use Rattle.wires.proofs.Puts.{puts_then, puts_failed}
-use Rattle.query_lang.proofs.replies.write_tree.Goals as goal
+use Rattle.query_lang.proofs.trees.write_tree.Goals as goal
 
 pub returns : goal.returns
 unfolding tree_text

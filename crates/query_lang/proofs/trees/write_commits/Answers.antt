@@ -2,7 +2,7 @@ use Rattle.std.proofs.Common.{◌≡◌, take, arith, take_all}
 use Rattle.std.proofs.lemmas.Option.{get_or_from_slice_get, slice_get_within}
 use Rattle.network_text.proofs.PutLines.{puts_more, puts_stopped}
 use Rattle.query_lang.specs.Trees.{commit_line}
-use Rattle.query_lang.proofs.replies.write_commits.Goals as goal
+use Rattle.query_lang.proofs.trees.write_commits.Goals as goal
 
 pub loop-place-preserved : goal.loop-place-preserved
 loop-place-preserved g c =

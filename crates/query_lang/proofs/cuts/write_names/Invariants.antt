@@ -2,7 +2,7 @@ use Rattle.std.proofs.Common.{Result, drop}
 use Rattle.query_lang.specs.Replies.{side_names}
 use Rattle.wires.specs.Puts.{Puts}
 use Rattle.wires.specs.declared.faults.Failed.{Failed}
-use Rattle.query_lang.proofs.replies.write_names.Given as goal
+use Rattle.query_lang.proofs.cuts.write_names.Given as goal
 
 -- A put of the names that are left makes a put of all names.
 abbrev pub invariant-loop-router : goal.invariant-loop-router

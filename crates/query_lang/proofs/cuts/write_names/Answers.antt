@@ -2,7 +2,7 @@ use Rattle.std.proofs.Common.{[], ◌+◌, Ok, arith, drop, false, get_or}
 use Rattle.query_lang.specs.Replies.{name_piece, side_names}
 use Rattle.query_lang.proofs.NameTexts.{side_names-drop, side_names-drop_all}
 use Rattle.wires.proofs.Puts.{puts_none, puts_then, puts_failed}
-use Rattle.query_lang.proofs.replies.write_names.Goals as goal
+use Rattle.query_lang.proofs.cuts.write_names.Goals as goal
 
 pub loop-router-preserved : goal.loop-router-preserved
 loop-router-preserved g c = λ new result rest.

@@ -6,7 +6,7 @@ use Rattle.network_text.proofs.PutLines.{puts_more, puts_stopped}
 use Rattle.query_lang.specs.Trees.{child_piece}
 use Rattle.query_lang.proofs.Children.{concat-children_of}
 use Rattle.wires.proofs.Puts.{puts_same}
-use Rattle.query_lang.proofs.replies.write_children.Goals as goal
+use Rattle.query_lang.proofs.trees.write_children.Goals as goal
 
 pub loop-router-preserved : goal.loop-router-preserved
 loop-router-preserved g c =

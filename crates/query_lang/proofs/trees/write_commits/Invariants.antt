@@ -3,7 +3,7 @@ use Rattle.std.specs.List.{concat}
 use Rattle.query_lang.specs.Trees.{commit_line}
 use Rattle.wires.specs.Puts.{Puts}
 use Rattle.wires.specs.declared.faults.Failed.{Failed}
-use Rattle.query_lang.proofs.replies.write_commits.Given as goal
+use Rattle.query_lang.proofs.trees.write_commits.Given as goal
 
 -- The lines of the commits so far are put.
 abbrev pub invariant-loop-place : goal.invariant-loop-place

@@ -1,7 +1,7 @@
 use Rattle.std.proofs.Common.{ap, arith, subst, sym}
 use Rattle.cut_model.specs.Net.{Net, IsInLimits}
 use Rattle.query_lang.proofs.Entries.{entry_within}
-use Rattle.query_lang.proofs.replies.named_entry.Goals as goal
+use Rattle.query_lang.proofs.trees.named_entry.Goals as goal
 
 pub returns : goal.returns
 returns c =

@@ -1,0 +1,21 @@
+use Rattle.std.proofs.Common.{ap, codes, subst, sym}
+use Rattle.cut_model.specs.Net.{Net, IsInLimits}
+use Rattle.query_lang.specs.Replies.{cut_text}
+use Rattle.query_lang.proofs.CutReports.{weakest_report}
+use Rattle.query_lang.proofs.reports.write_weakest.Goals as goal
+
+pub returns : goal.returns
+returns g c =
+    let sheet = c.args.sheet.now in
+    let tree = c.args.finished.now in
+    let limits = subst (λ (n : Net). IsInLimits n.routers n.links) (sym c.requires.same) c.net.ensures.sheet.limits in
+    let least = c.in-Some.least in
+    let side = c.side_below-side.result in
+    record {
+      puts = record {
+        text = cut_text c.args.version (codes "WEAKEST") least.width sheet.names side;
+        wanted = weakest_report c.args.version sheet tree least.child least.width side limits c.in-Some.ensures.edge
+            c.in-Some.ensures.width c.in-Some.ensures.least c.side_below-side.ensures;
+        puts = c.write_cut.ensures.puts;
+      };
+    }

@@ -1,0 +1,190 @@
+//! Replies that tell edges of a tree, or the commits that made it.
+ghost use Rattle.std.specs.Prelude.{◌≡◌, ◌-◌, ◌<◌, All, Some, length, map, slice_get};
+ghost use Rattle.std.specs.List.{concat};
+ghost use Rattle.cut_model.specs.Terminals.{terminal_count};
+ghost use Rattle.query_lang.specs.Trees.{child_line, child_piece, children_of, commit_line};
+ghost use Rattle.query_lang.specs.Trees.{edge_line, path_text, run_text, tree_text};
+ghost use Rattle.wires.specs.Puts.{Puts};
+
+use crate::replies::write_head;
+use itoa::Buffer;
+use network_text::Sheet;
+use tree_state::{Entry, Finished};
+use wires::{Failed, Sink, put_pieces};
+
+/// Writes the line of an edge: the names of its lower end and of the router above it, and a number.
+fn write_edge<K: Sink>(
+    sheet: &Sheet,
+    child: u32,
+    above: u32,
+    number: u64,
+    sink: &mut K,
+) -> Result<(), Failed>
+    requires child { child < length sheet.now.names }
+    requires above { above < length sheet.now.names }
+    ensures puts { Puts K.written K.write_faults K.beside_sink K.takes sink.old sink.new result
+        (edge_line sheet.now.names child above number) }
+{
+    let mut digits = Buffer::new();
+    put_pieces(
+        &[
+            sheet.name_of(child),
+            b" ",
+            sheet.name_of(above),
+            b" ",
+            digits.format(number).as_bytes(),
+            b"\n",
+        ],
+        sink,
+    )
+}
+
+/// Writes the line of the edge that leads up from a router, with its width.
+fn write_child_line<K: Sink>(
+    sheet: &Sheet,
+    finished: &Finished,
+    child: u32,
+    sink: &mut K,
+) -> Result<(), Failed>
+    requires same { finished.now.net ≡ sheet.now.net }
+    requires within { child < sheet.now.net.routers }
+    ensures puts { Puts K.written K.write_faults K.beside_sink K.takes sink.old sink.new result
+        (child_line sheet.now.names finished.now child) }
+{
+    prove!(child < sheet.net().routers());
+    let above = finished.up(child);
+    write_edge(sheet, child, above, finished.width(child), sink)
+}
+
+/// Writes the line of the edge that leads up from the router, where it is a terminal but not the root.
+fn write_child<K: Sink>(
+    sheet: &Sheet,
+    finished: &Finished,
+    router: u32,
+    sink: &mut K,
+) -> Result<(), Failed>
+    requires same { finished.now.net ≡ sheet.now.net }
+    requires within { router < sheet.now.net.routers }
+    ensures puts { Puts K.written K.write_faults K.beside_sink K.takes sink.old sink.new result
+        (child_piece sheet.now.names finished.now router) }
+{
+    let net = sheet.net();
+    if net.is_terminal(router) && router != net.root() {
+        write_child_line(sheet, finished, router, sink)
+    } else {
+        Ok(())
+    }
+}
+
+/// Writes the lines of all edges, in the order of their lower ends.
+fn write_children<K: Sink>(sheet: &Sheet, finished: &Finished, sink: &mut K) -> Result<(), Failed>
+    requires { finished.now.net ≡ sheet.now.net }
+    ensures puts { Puts K.written K.write_faults K.beside_sink K.takes sink.old sink.new result
+        (concat (map (child_line sheet.now.names finished.now) (children_of finished.now.net))) }
+{
+    for router in 0..sheet.net().routers() {
+        write_child(sheet, finished, router, sink)?;
+    }
+    Ok(())
+}
+
+/// How many edges the tree has. Each commit made one.
+fn edge_count(finished: &Finished) -> u64
+    ensures edges { result ≡ terminal_count finished.now.net - 1 }
+    ensures commits { result ≡ length finished.now.history }
+{
+    u64::from(finished.commits())
+}
+
+/// Writes the tree, behind a first line that tells its number of edges.
+#[tactic(auto, unfolding(crate::specs::Trees::tree_text))]
+pub(crate) fn write_tree<K: Sink>(
+    version: u32,
+    sheet: &Sheet,
+    finished: &Finished,
+    sink: &mut K,
+) -> Result<(), Failed>
+    requires { finished.now.net ≡ sheet.now.net }
+    ensures puts { Puts K.written K.write_faults K.beside_sink K.takes sink.old sink.new result
+        (tree_text version sheet.now finished.now) }
+{
+    write_head(version, "TREE", edge_count(finished), sink)?;
+    write_children(sheet, finished, sink)
+}
+
+/// The entry of the commit at a place. The sheet has names for its two routers.
+fn named_entry<'a>(sheet: &Sheet, finished: &'a Finished, place: u32) -> &'a Entry
+    requires same { finished.now.net ≡ sheet.now.net }
+    requires within { place < length finished.now.history }
+    ensures value { slice_get finished.now.history place ≡ Some result.now }
+    ensures router { result.now.router < length sheet.now.names }
+    ensures neighbour { result.now.neighbour < length sheet.now.names }
+{
+    prove!(finished.net().routers() == sheet.net().routers());
+    finished.entry(place)
+}
+
+/// Writes the lines of all commits, the oldest first.
+fn write_commits<K: Sink>(sheet: &Sheet, finished: &Finished, sink: &mut K) -> Result<(), Failed>
+    requires { finished.now.net ≡ sheet.now.net }
+    ensures puts { Puts K.written K.write_faults K.beside_sink K.takes sink.old sink.new result
+        (concat (map (commit_line sheet.now.names) finished.now.history)) }
+{
+    for place in 0..finished.commits() {
+        let entry = named_entry(sheet, finished, place);
+        write_edge(sheet, entry.router, entry.neighbour, entry.value, sink)?;
+    }
+    Ok(())
+}
+
+/// Writes the run that made the tree, behind a first line that tells its number of commits.
+#[tactic(auto, unfolding(crate::specs::Trees::run_text))]
+pub(crate) fn write_run<K: Sink>(
+    version: u32,
+    sheet: &Sheet,
+    finished: &Finished,
+    sink: &mut K,
+) -> Result<(), Failed>
+    requires { finished.now.net ≡ sheet.now.net }
+    ensures puts { Puts K.written K.write_faults K.beside_sink K.takes sink.old sink.new result
+        (run_text version sheet.now finished.now) }
+{
+    write_head(version, "RUN", edge_count(finished), sink)?;
+    write_commits(sheet, finished, sink)
+}
+
+/// Writes the lines of the edges that lead up from these routers, in their order.
+fn write_edges<K: Sink>(
+    sheet: &Sheet,
+    finished: &Finished,
+    children: &[u32],
+    sink: &mut K,
+) -> Result<(), Failed>
+    requires same { finished.now.net ≡ sheet.now.net }
+    requires within { All (λ child. child < sheet.now.net.routers) children.now }
+    ensures puts { Puts K.written K.write_faults K.beside_sink K.takes sink.old sink.new result
+        (concat (map (child_line sheet.now.names finished.now) children.now)) }
+{
+    for child in children {
+        write_child_line(sheet, finished, *child, sink)?;
+    }
+    Ok(())
+}
+
+/// Writes a path, by the lower ends of its edges, behind a first line that tells their number.
+#[tactic(auto, unfolding(crate::specs::Trees::path_text))]
+pub(crate) fn write_path<K: Sink>(
+    version: u32,
+    sheet: &Sheet,
+    finished: &Finished,
+    children: &[u32],
+    sink: &mut K,
+) -> Result<(), Failed>
+    requires same { finished.now.net ≡ sheet.now.net }
+    requires within { All (λ child. child < sheet.now.net.routers) children.now }
+    ensures puts { Puts K.written K.write_faults K.beside_sink K.takes sink.old sink.new result
+        (path_text version sheet.now finished.now children.now) }
+{
+    write_head(version, "PATH", children.len() as u64, sink)?;
+    write_edges(sheet, finished, children, sink)
+}
