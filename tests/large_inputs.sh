@@ -38,10 +38,10 @@ try lines_of_a_million_bytes_within_texts 0 "$room/wanted" "$room/stdin" plan
         awk 'BEGIN { for (i = 0; i < 8192; i++) print "link r" i % 1024 " r" (i + 1) % 1024 " 1" }'
         printf '%s\nEND\n' "$line"
     done
-    echo 'CUT r0 r512'
+    echo 'CUT r512 r0'
 } >"$room/stdin"
 printf '%s\n' '@0 NO 15 line 8193' '@0 NO 16 line 8193' '@0 NO 17 line 8193' '@0 NO 17 line 8193' \
-    '@0 NO 16 line 8193' '@1 LOADED routers 1024 links 8192' '@1 CUT 16 side r0' >"$room/wanted"
+    '@0 NO 16 line 8193' '@1 LOADED routers 1024 links 8192' '@1 CUT 16 side r512' >"$room/wanted"
 try both_limits_at_once 0 "$room/wanted" "$room/stdin" plan
 try_in_pieces both_limits_at_once 0 "$room/wanted" "$room/stdin" plan
 
@@ -74,37 +74,49 @@ done >"$room/wanted"
 try the_largest_network_is_told_back 0 "$room/wanted" "$room/stdin" plan
 try_in_pieces the_largest_network_is_told_back 0 "$room/wanted" "$room/stdin" plan
 
-# A chain of the most routers, with names of 32 bytes and eight links of the greatest capacity between
-# each two neighbours: its tree, and the run that made it, are the chain itself.
+# A chain of the most routers, with names of 32 bytes and eight links of the greatest capacity
+# between each two neighbours, but seven between the first two: its tree, and the run that made it,
+# are the chain itself, and the weakest edge has all routers but the first below it.
 awk 'BEGIN {
     for (i = 1; i < 1024; i++)
-        printf "router-%04d.%020d router-%04d.%020d\n", i, i, i - 1, i - 1
+        printf "router-%04d.%020d router-%04d.%020d %d%s\n", i, i, i - 1, i - 1,
+            i == 1 ? 7 : 8, "000000000000"
 }' >"$room/chain"
+below=$(awk '{ printf " %s", $1 }' "$room/chain")
+top=$(awk 'NR == 1 { print $2 }' "$room/chain")
+foot=$(awk 'END { print $1 }' "$room/chain")
 {
     echo LOAD
-    awk '{ for (i = 0; i < 8; i++) print "link " $2 " " $1 " 1000000000000" }' "$room/chain"
-    printf '%s\n' END TREE RUN
+    awk '{ for (i = NR == 1 ? 7 : 8; i > 0; i--) print "link " $2 " " $1 " 1000000000000" }' \
+        "$room/chain"
+    printf '%s\n' END TREE RUN "PATH $top $foot" "PATH $foot $top" WEAKEST "CUT $foot $top" \
+        "CUT $top $foot"
 } >"$room/stdin"
 {
-    echo '@1 LOADED routers 1024 links 8184'
-    for word in TREE RUN; do
+    echo '@1 LOADED routers 1024 links 8183'
+    for word in TREE RUN PATH; do
         echo "@1 $word 1023"
-        sed 's/$/ 8000000000000/' "$room/chain"
+        cat "$room/chain"
     done
+    echo '@1 PATH 1023'
+    sort -r "$room/chain"
+    printf '%s\n' "@1 WEAKEST 7000000000000 side$below" "@1 CUT 7000000000000 side$below" \
+        "@1 CUT 7000000000000 side $top"
 } >"$room/wanted"
-try the_longest_chain_is_its_own_tree 0 "$room/wanted" "$room/stdin" plan
-try_in_pieces the_longest_chain_is_its_own_tree 0 "$room/wanted" "$room/stdin" plan
+try the_longest_chain_is_its_own_tree_and_path 0 "$room/wanted" "$room/stdin" plan
+try_in_pieces the_longest_chain_is_its_own_tree_and_path 0 "$room/wanted" "$room/stdin" plan
 
 # The widest edge that there may be.
 {
     printf '%s\n' LOAD
     awk 'BEGIN { for (i = 0; i < 8192; i++) print "link a b 1000000000000" }'
-    printf '%s\n' END TREE RUN
+    printf '%s\n' END TREE RUN 'PATH b a' WEAKEST 'CUT a b'
 } >"$room/stdin"
 {
     echo '@1 LOADED routers 2 links 8192'
-    for word in TREE RUN; do
+    for word in TREE RUN PATH; do
         printf '%s\n' "@1 $word 1" 'b a 8192000000000000'
     done
+    printf '%s\n' '@1 WEAKEST 8192000000000000 side b' '@1 CUT 8192000000000000 side a'
 } >"$room/wanted"
 try the_widest_edge_of_a_tree 0 "$room/wanted" "$room/stdin" plan
