@@ -3,12 +3,12 @@ ghost use Rattle.std.specs.Prelude.{◌≡◌, [], ◌∷◌, IfOk};
 ghost use Rattle.std.specs.Arc.{arc_value};
 
 use crate::{
-    ReplyBuffer, Request, RequestFault, bye_reply, cut_reply, loaded_reply, parse_request,
-    refusal_reply, report_reply, write_bye, write_cut, write_head, write_loaded, write_refusal,
-    write_reply,
+    ReplyBuffer, Request, RequestFault, bye_reply, loaded_reply, parse_request, refusal_reply,
+    report_reply, write_bye, write_head, write_loaded, write_refusal, write_reply,
 };
 use cut_model::{LeastCut, Link, Network, NoMemory, Side};
 use network_text::{Fed, Reader};
+use path_minimum::{Ladder, PathRoom};
 use std::alloc::Global;
 use std::sync::Arc;
 use std::test::Fail;
@@ -63,7 +63,7 @@ fn replies_without_a_sheet(rt: HostRuntime) -> Result<(), Fail> {
 }
 
 #[test]
-fn requests_and_replies_of_a_network(rt: HostRuntime) -> Result<(), Fail> {
+fn requests_of_a_network(rt: HostRuntime) -> Result<(), Fail> {
     let mut reader = Reader::begin(rt.alloc())?;
     assert_eq!(rt; reader.line(b"link a b 5"), Fed::More);
     assert_eq!(rt; reader.line(b"link b c 7"), Fed::More);
@@ -73,16 +73,17 @@ fn requests_and_replies_of_a_network(rt: HostRuntime) -> Result<(), Fail> {
         parse_request(b"CUT a c", Some(&sheet)),
         Ok(Request::Cut(0, 2))
     );
+    assert_eq!(rt;
+        parse_request(b"PATH c a", Some(&sheet)),
+        Ok(Request::Path(2, 0))
+    );
     assert_eq!(rt; parse_request(b"TREE", Some(&sheet)), Ok(Request::Tree));
     assert_eq!(rt; parse_request(b"RUN", Some(&sheet)), Ok(Request::Run));
     assert_eq!(rt; parse_request(b"NET", Some(&sheet)), Ok(Request::Net));
-    assert_eq!(rt; sheet.net().routers(), 3);
-    let mut side = Side::empty(3);
-    side.put(1);
-    side.put(2);
-    let mut buffer = ReplyBuffer::make(rt.alloc())?;
-    cut_reply(&mut buffer, 1, 5, &sheet, &side);
-    assert_eq!(rt; buffer.bytes(), b"@1 CUT 5 side b c\n".as_slice());
+    assert_eq!(rt;
+        parse_request(b"WEAKEST", Some(&sheet)),
+        Ok(Request::Weakest)
+    );
     Ok(())
 }
 
@@ -96,15 +97,71 @@ fn reports_of_a_chain(rt: HostRuntime) -> Result<(), Fail> {
     let links = vec![in rt.alloc(); Link { a: 0, b: 1, cap: 5 }, Link { a: 1, b: 2, cap: 7 }]?;
     let chain = Network::make(3, links).map_err(|_| "refused")?;
     assert!(rt; sheet.net().same_as(&chain));
-    let finished = chain_tree(rt.alloc(), sheet.net())?;
+    let tree = chain_tree(rt.alloc(), sheet.net())?;
+    let ladder = Ladder::make(rt.alloc(), &tree)?;
+    let mut room = PathRoom::make(rt.alloc())?;
     let mut buffer = ReplyBuffer::make(rt.alloc())?;
-    report_reply(&mut buffer, 1, &sheet, &finished, &Request::Tree);
+    report_reply(
+        &mut buffer,
+        1,
+        &sheet,
+        &tree,
+        &ladder,
+        &Request::Tree,
+        &mut room,
+    );
     assert_eq!(rt; buffer.bytes(), b"@1 TREE 2\nb a 5\nc b 7\n".as_slice());
-    report_reply(&mut buffer, 2, &sheet, &finished, &Request::Run);
+    report_reply(
+        &mut buffer,
+        2,
+        &sheet,
+        &tree,
+        &ladder,
+        &Request::Run,
+        &mut room,
+    );
     assert_eq!(rt; buffer.bytes(), b"@2 RUN 2\nc a 5\nb c 7\n".as_slice());
-    report_reply(&mut buffer, 3, &sheet, &finished, &Request::Net);
+    report_reply(
+        &mut buffer,
+        3,
+        &sheet,
+        &tree,
+        &ladder,
+        &Request::Net,
+        &mut room,
+    );
     let lines = "@3 NET 6\nrouter a\nrouter b\nrouter c\nlink a b 5\nlink b c 7\nEND\n";
     assert_eq!(rt; buffer.bytes(), lines.as_bytes());
+    report_reply(
+        &mut buffer,
+        4,
+        &sheet,
+        &tree,
+        &ladder,
+        &Request::Cut(0, 2),
+        &mut room,
+    );
+    assert_eq!(rt; buffer.bytes(), b"@4 CUT 5 side a\n".as_slice());
+    report_reply(
+        &mut buffer,
+        5,
+        &sheet,
+        &tree,
+        &ladder,
+        &Request::Path(2, 0),
+        &mut room,
+    );
+    assert_eq!(rt; buffer.bytes(), b"@5 PATH 2\nc b 7\nb a 5\n".as_slice());
+    report_reply(
+        &mut buffer,
+        6,
+        &sheet,
+        &tree,
+        &ladder,
+        &Request::Weakest,
+        &mut room,
+    );
+    assert_eq!(rt; buffer.bytes(), b"@6 WEAKEST 5 side b c\n".as_slice());
     Ok(())
 }
 
@@ -115,11 +172,41 @@ fn reports_of_one_router(rt: HostRuntime) -> Result<(), Fail> {
     assert_eq!(rt; reader.line(b"END"), Fed::Ended);
     let sheet = reader.close()?;
     assert_eq!(rt; sheet.net().routers(), 1);
-    let finished = lone_tree(rt.alloc(), sheet.net())?;
+    assert_eq!(rt;
+        parse_request(b"WEAKEST", Some(&sheet)),
+        Err(RequestFault::OneRouter)
+    );
+    let tree = lone_tree(rt.alloc(), sheet.net())?;
+    let ladder = Ladder::make(rt.alloc(), &tree)?;
+    let mut room = PathRoom::make(rt.alloc())?;
     let mut sink = MemorySink::make(rt.alloc(), 100, Vec::new(rt.alloc()))?;
-    write_reply(1, &sheet, &finished, &Request::Tree, &mut sink)?;
-    write_reply(1, &sheet, &finished, &Request::Run, &mut sink)?;
-    write_reply(1, &sheet, &finished, &Request::Net, &mut sink)?;
+    write_reply(
+        1,
+        &sheet,
+        &tree,
+        &ladder,
+        &Request::Tree,
+        &mut room,
+        &mut sink,
+    )?;
+    write_reply(
+        1,
+        &sheet,
+        &tree,
+        &ladder,
+        &Request::Run,
+        &mut room,
+        &mut sink,
+    )?;
+    write_reply(
+        1,
+        &sheet,
+        &tree,
+        &ladder,
+        &Request::Net,
+        &mut room,
+        &mut sink,
+    )?;
     let replies = "@1 TREE 0\n@1 RUN 0\n@1 NET 2\nrouter a\nEND\n";
     assert_eq!(rt; sink.written(), replies.as_bytes());
     Ok(())
@@ -140,21 +227,6 @@ fn replies_put_into_a_sink(rt: HostRuntime) -> Result<(), Fail> {
 }
 
 #[test]
-fn a_cut_put_into_a_sink(rt: HostRuntime) -> Result<(), Fail> {
-    let mut reader = Reader::begin(rt.alloc())?;
-    assert_eq!(rt; reader.line(b"link a b 5"), Fed::More);
-    assert_eq!(rt; reader.line(b"END"), Fed::Ended);
-    let sheet = reader.close()?;
-    assert_eq!(rt; sheet.net().routers(), 2);
-    let mut side = Side::empty(2);
-    side.put(0);
-    let mut sink = MemorySink::make(rt.alloc(), 100, Vec::new(rt.alloc()))?;
-    write_cut(1, 5, &sheet, &side, &mut sink)?;
-    assert_eq!(rt; sink.written(), b"@1 CUT 5 side a\n".as_slice());
-    Ok(())
-}
-
-#[test]
 fn faults_in_words(rt: HostRuntime) -> Result<(), Fail> {
     let fault = parse_request(b"CUT a b", None)
         .err()
@@ -164,5 +236,10 @@ fn faults_in_words(rt: HostRuntime) -> Result<(), Fail> {
         "no network yet"
     );
     assert_eq!(rt; fault.number(), 6);
+    assert_eq!(rt;
+        format!(in rt.alloc(); "{}", RequestFault::OneRouter)?.as_str(),
+        "only one router"
+    );
+    assert_eq!(rt; RequestFault::OneRouter.number(), 8);
     Ok(())
 }
