@@ -1,13 +1,14 @@
 //! The replies, byte for byte as a client reads them, with ample memory.
 ghost use Rattle.std.specs.Prelude.{◌≡◌, [], ◌∷◌, IfOk};
 ghost use Rattle.std.specs.Arc.{arc_value};
+ghost use Rattle.path_minimum.specs.Ladders.{IsLadderOf};
 
 use crate::{
     ReplyBuffer, Request, RequestFault, bye_reply, loaded_reply, parse_request, refusal_reply,
     report_reply, write_bye, write_head, write_loaded, write_refusal, write_reply,
 };
 use cut_model::{LeastCut, Link, Network, NoMemory, Side};
-use network_text::{Fed, Reader};
+use network_text::{Fed, Reader, Sheet};
 use path_minimum::{Ladder, PathRoom};
 use std::alloc::Global;
 use std::sync::Arc;
@@ -44,6 +45,28 @@ fn lone_tree(alloc: Global, net: &Arc<Network>) -> Result<Finished, NoMemory>
     prove!(net.routers() == 1);
     let grow = Growing::make(alloc, net.clone()?)?;
     Ok(Finished::hold(grow))
+}
+
+/// Gathers the reply to a line that asks for something of the network.
+fn answer(
+    buffer: &mut ReplyBuffer,
+    version: u32,
+    sheet: &Sheet,
+    tree: &Finished,
+    ladder: &Ladder,
+    room: &mut PathRoom,
+    line: &str,
+) -> Result<(), RequestFault>
+    requires same { tree.now.net ≡ sheet.now.net }
+    requires ladder { IsLadderOf tree.now ladder.now }
+{
+    match parse_request(line.as_bytes(), Some(sheet))? {
+        Request::Nothing | Request::Load | Request::Bye => Err(RequestFault::UnknownWord),
+        request => {
+            report_reply(buffer, version, sheet, tree, ladder, &request, room);
+            Ok(())
+        }
+    }
 }
 
 #[test]
@@ -101,67 +124,27 @@ fn reports_of_a_chain(rt: HostRuntime) -> Result<(), Fail> {
     let ladder = Ladder::make(rt.alloc(), &tree)?;
     let mut room = PathRoom::make(rt.alloc())?;
     let mut buffer = ReplyBuffer::make(rt.alloc())?;
-    report_reply(
-        &mut buffer,
-        1,
-        &sheet,
-        &tree,
-        &ladder,
-        &Request::Tree,
-        &mut room,
-    );
-    assert_eq!(rt; buffer.bytes(), b"@1 TREE 2\nb a 5\nc b 7\n".as_slice());
-    report_reply(
-        &mut buffer,
-        2,
-        &sheet,
-        &tree,
-        &ladder,
-        &Request::Run,
-        &mut room,
-    );
-    assert_eq!(rt; buffer.bytes(), b"@2 RUN 2\nc a 5\nb c 7\n".as_slice());
-    report_reply(
-        &mut buffer,
-        3,
-        &sheet,
-        &tree,
-        &ladder,
-        &Request::Net,
-        &mut room,
-    );
-    let lines = "@3 NET 6\nrouter a\nrouter b\nrouter c\nlink a b 5\nlink b c 7\nEND\n";
-    assert_eq!(rt; buffer.bytes(), lines.as_bytes());
-    report_reply(
-        &mut buffer,
-        4,
-        &sheet,
-        &tree,
-        &ladder,
-        &Request::Cut(0, 2),
-        &mut room,
-    );
-    assert_eq!(rt; buffer.bytes(), b"@4 CUT 5 side a\n".as_slice());
-    report_reply(
-        &mut buffer,
-        5,
-        &sheet,
-        &tree,
-        &ladder,
-        &Request::Path(2, 0),
-        &mut room,
-    );
-    assert_eq!(rt; buffer.bytes(), b"@5 PATH 2\nc b 7\nb a 5\n".as_slice());
-    report_reply(
-        &mut buffer,
-        6,
-        &sheet,
-        &tree,
-        &ladder,
-        &Request::Weakest,
-        &mut room,
-    );
-    assert_eq!(rt; buffer.bytes(), b"@6 WEAKEST 5 side b c\n".as_slice());
+    let network = "@3 NET 6\nrouter a\nrouter b\nrouter c\nlink a b 5\nlink b c 7\nEND\n";
+    for (version, line, reply) in [
+        (1, "TREE", "@1 TREE 2\nb a 5\nc b 7\n"),
+        (2, "RUN", "@2 RUN 2\nc a 5\nb c 7\n"),
+        (3, "NET", network),
+        (4, "CUT a c", "@4 CUT 5 side a\n"),
+        (5, "CUT c a", "@5 CUT 5 side b c\n"),
+        (6, "PATH c a", "@6 PATH 2\nc b 7\nb a 5\n"),
+        (7, "WEAKEST", "@7 WEAKEST 5 side b c\n"),
+    ] {
+        answer(
+            &mut buffer,
+            version,
+            &sheet,
+            &tree,
+            &ladder,
+            &mut room,
+            line,
+        )?;
+        assert_eq!(rt; buffer.bytes(), reply.as_bytes());
+    }
     Ok(())
 }
 
@@ -172,16 +155,29 @@ fn reports_of_one_router(rt: HostRuntime) -> Result<(), Fail> {
     assert_eq!(rt; reader.line(b"END"), Fed::Ended);
     let sheet = reader.close()?;
     assert_eq!(rt; sheet.net().routers(), 1);
+    let tree = lone_tree(rt.alloc(), sheet.net())?;
+    let ladder = Ladder::make(rt.alloc(), &tree)?;
+    let mut room = PathRoom::make(rt.alloc())?;
+    let mut buffer = ReplyBuffer::make(rt.alloc())?;
+    for (line, reply) in [
+        ("TREE", "@1 TREE 0\n"),
+        ("RUN", "@1 RUN 0\n"),
+        ("NET", "@1 NET 2\nrouter a\nEND\n"),
+    ] {
+        answer(&mut buffer, 1, &sheet, &tree, &ladder, &mut room, line)?;
+        assert_eq!(rt; buffer.bytes(), reply.as_bytes());
+    }
+    assert_eq!(rt;
+        parse_request(b"CUT a a", Some(&sheet)),
+        Err(RequestFault::SameRouter)
+    );
     assert_eq!(rt;
         parse_request(b"WEAKEST", Some(&sheet)),
         Err(RequestFault::OneRouter)
     );
-    let tree = lone_tree(rt.alloc(), sheet.net())?;
-    let ladder = Ladder::make(rt.alloc(), &tree)?;
-    let mut room = PathRoom::make(rt.alloc())?;
     let mut sink = MemorySink::make(rt.alloc(), 100, Vec::new(rt.alloc()))?;
     write_reply(
-        1,
+        2,
         &sheet,
         &tree,
         &ladder,
@@ -189,26 +185,7 @@ fn reports_of_one_router(rt: HostRuntime) -> Result<(), Fail> {
         &mut room,
         &mut sink,
     )?;
-    write_reply(
-        1,
-        &sheet,
-        &tree,
-        &ladder,
-        &Request::Run,
-        &mut room,
-        &mut sink,
-    )?;
-    write_reply(
-        1,
-        &sheet,
-        &tree,
-        &ladder,
-        &Request::Net,
-        &mut room,
-        &mut sink,
-    )?;
-    let replies = "@1 TREE 0\n@1 RUN 0\n@1 NET 2\nrouter a\nEND\n";
-    assert_eq!(rt; sink.written(), replies.as_bytes());
+    assert_eq!(rt; sink.written(), b"@2 TREE 0\n".as_slice());
     Ok(())
 }
 
