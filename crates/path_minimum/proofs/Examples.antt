@@ -35,15 +35,18 @@ fork = slice_index (0 ∷ 0 ∷ 0 ∷ 1 ∷ 1 ∷ 2 ∷ [])
 six : Net
 six = record { routers = 6; links = [] }
 
+-- all routers, in number order
 routers : List ℕ
 routers = 0 ∷ 1 ∷ 2 ∷ 3 ∷ 4 ∷ 5 ∷ []
 
 -- ---- depths
 
+-- in a row each router is one deeper than the one before it
 depths_in_a_row : map (depth_in 6 0 row) routers ≡ 0 ∷ 3 ∷ 1 ∷ 4 ∷ 2 ∷ 5 ∷ []
 unfolding row routers some_up number_in depth_in
 depths_in_a_row = refl
 
+-- in a fork the two below the root are at depth 1, and those below them at depth 2
 depths_in_a_fork : map (depth_in 6 0 fork) routers ≡ 0 ∷ 1 ∷ 1 ∷ 2 ∷ 2 ∷ 2 ∷ []
 unfolding fork routers some_up number_in depth_in
 depths_in_a_fork = refl

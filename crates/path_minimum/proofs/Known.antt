@@ -8,21 +8,10 @@ use Rattle.std.proofs.lemmas.Bool.{cases_eq, false≢true}
 use Rattle.cut_model.specs.Cuts.{set_of}
 use Rattle.cut_model.specs.Terminals.{root_of}
 use Rattle.tree_state.specs.Growing.{GrowingView, up_of, HoldsCutTree}
-use Rattle.path_minimum.specs.Ladders.{depth_of, IsLadderOf}
+use Rattle.tree_state.proofs.Decided.{put_in, put_stays}
+use Rattle.path_minimum.specs.Ladders.{depth_of}
 use Rattle.path_minimum.specs.Walks.{AreKnown}
 use Rattle.path_minimum.proofs.Depths.{depth_of-root, depth_of-suc}
-
--- a router that is put in is in
-pub put-same : (marks : List Bool) (at : ℕ) → at < length marks → set_of (set marks at true) at ≡ true
-put-same marks at low = get_or-set_same marks at true false low
-
--- and what was in is still in
-pub put-kept : (marks : List Bool) (at c : ℕ) → at < length marks → set_of marks c ≡ true
-    → set_of (set marks at true) c ≡ true
-put-kept marks at c low inside = elim (cases_eq c at) [
-  | inl here ↦ ap (set_of (set marks at true)) here ∙ put-same marks at low
-  | inr other ↦ get_or-set_other marks at c true false other ∙ inside
-]
 
 -- one more router is known, with its depth
 pub known-more : (tree : GrowingView) (known : List Bool) (depths : List ℕ) (at depth : ℕ) → at < tree.net.routers
@@ -31,7 +20,7 @@ pub known-more : (tree : GrowingView) (known : List Bool) (depths : List ℕ) (a
 known-more tree known depths at depth low is before = record {
   marks = length-set known at true ∙ before.marks;
   places = length-set depths at depth ∙ before.places;
-  root = put-kept known at (root_of tree.net) (omega (arith, before.marks)) before.root;
+  root = put_stays known at (root_of tree.net) (omega (arith, before.marks)) before.root;
   depth_is = λ c within inside. elim (cases_eq c at) [
     | inl here ↦ ap (slice_index (set depths at depth)) here
         ∙ get_or-set_same depths at depth 0 (omega (arith, before.places))
@@ -49,7 +38,7 @@ pub known-root : (tree : GrowingView) (depths : List ℕ) → HoldsCutTree tree 
 known-root tree depths holds low places = record {
   marks = length-set none root true ∙ length-replicate tree.net.routers false;
   places = length-set depths root 0 ∙ places;
-  root = put-same none root (omega (arith, length-replicate tree.net.routers false));
+  root = put_in none root (omega (arith, length-replicate tree.net.routers false));
   depth_is = λ c within inside. elim (cases_eq c root) [
     | inl here ↦ ap (slice_index (set depths root 0)) here
         ∙ get_or-set_same depths root 0 0 (omega (arith, places))
@@ -64,14 +53,6 @@ known-root tree depths holds low places = record {
 
     none : List Bool
     none = replicate tree.net.routers false
-
--- once each router is known, the list is a ladder
-pub ladder-known : (tree : GrowingView) (known : List Bool) (depths : List ℕ) → AreKnown tree known depths
-    → ((c : ℕ) → c < tree.net.routers → set_of known c ≡ true) → IsLadderOf tree depths
-ladder-known tree known depths before all = record {
-  size = before.places;
-  depth_is = λ c within. before.depth_is c within (all c within);
-}
 
 -- a router that isn't known is one deeper than the router above it, as the root is known
 pub depth-unknown : (tree : GrowingView) (known : List Bool) (depths : List ℕ) (at : ℕ) → HoldsCutTree tree

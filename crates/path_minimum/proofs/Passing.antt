@@ -11,8 +11,8 @@ use Rattle.path_minimum.specs.declared.least_edge.PathLeast.{PathLeast}
 use Rattle.path_minimum.specs.Ladders.{depth_of, IsLadderOf}
 use Rattle.path_minimum.specs.Walks.{edge_of, ComesFirst}
 use Rattle.path_minimum.proofs.Depths.{tree_in}
-use Rattle.path_minimum.proofs.PathSteps.{on_path-none, on_path-turned, on_path-deeper, on_path-up, on_path-rest}
-use Rattle.path_minimum.proofs.PathSteps.{deeper-not_root}
+use Rattle.path_minimum.proofs.PathSteps.{on_path-none, on_path-turned, on_path-low, on_path-step, on_path-rest}
+use Rattle.path_minimum.proofs.PathSteps.{low-not_root}
 
 -- What is left of the path of a and b is the path of x and y, and the least edge comes first of what was passed.
 pub record HasPassed (tree : GrowingView) (a b x y : ℕ) (least : PathLeast) : Type 0 where
@@ -80,9 +80,9 @@ passed-up tree holds a b x y least next before apart low either first_least firs
   on_path = elim either [
     | inl old ↦ subst (λ (p : PathLeast). IsOnPath tree.net (up_of tree) a b p.child) (sym old) before.on_path
     | inr new ↦ subst (λ (p : PathLeast). IsOnPath tree.net (up_of tree) a b p.child) (sym new)
-        (before.ahead x (on_path-deeper tree.net t x y before.x_is before.y_is low apart))
+        (before.ahead x (on_path-low tree.net t x y before.x_is before.y_is low apart))
   ];
-  ahead = λ e ahead. before.ahead e (on_path-up tree.net t x y e before.x_is before.y_is low apart ahead);
+  ahead = λ e ahead. before.ahead e (on_path-step tree.net t x y e before.x_is before.y_is low apart ahead);
   passed = λ e on_path. elim (before.passed e on_path) [
     | inr behind ↦ inr (first-first next least (edge_of tree e) first_least behind)
     | inl left ↦ elim (cases_eq x e) [
@@ -146,12 +146,12 @@ pub either-on_path : (tree : GrowingView) → HoldsCutTree tree → (a b : ℕ) 
     → IsOnPath tree.net (up_of tree) a b pair.0
 either-on_path tree holds a b pair a_is b_is apart (inl e) low =
     subst (λ (p : ℕ × ℕ). IsOnPath tree.net (up_of tree) a b p.0) (sym e)
-    (on_path-deeper tree.net (tree_in tree holds) a b a_is b_is
+    (on_path-low tree.net (tree_in tree holds) a b a_is b_is
     (subst (λ (p : ℕ × ℕ). depth_of tree p.1 ≤ depth_of tree p.0) e low) apart)
 either-on_path tree holds a b pair a_is b_is apart (inr e) low =
     subst (λ (p : ℕ × ℕ). IsOnPath tree.net (up_of tree) a b p.0) (sym e)
     (on_path-turned tree.net (tree_in tree holds) b a b
-    (on_path-deeper tree.net (tree_in tree holds) b a b_is a_is
+    (on_path-low tree.net (tree_in tree holds) b a b_is a_is
     (subst (λ (p : ℕ × ℕ). depth_of tree p.1 ≤ depth_of tree p.0) e low) (λ q. apart (sym q))))
 
 -- a step up from the deeper one makes the sum of their depths smaller
@@ -161,7 +161,7 @@ pub passed-smaller : (tree : GrowingView) → HoldsCutTree tree → (a b x y : �
 passed-smaller tree holds a b x y least before apart low =
     let step : depth_of tree x ≡ suc (depth_of tree (up_of tree x)) =
     (tree_in tree holds).step x before.x_is
-    (deeper-not_root tree.net (tree_in tree holds) x y before.y_is low apart) in
+    (low-not_root tree.net (tree_in tree holds) x y before.y_is low apart) in
     omega arith
 
 -- ---- all the way

@@ -52,7 +52,7 @@ below-root net t c inside = elim (cases_eq c t.root) [
   | inr not_root ↦ absurd (false≢true (sym (tree_below-root net t c not_root) ∙ inside))
 ]
 
--- one step of the next lemma
+-- what has the router above a terminal below it has the terminal below it
 through_step : (net : Net) (t : Tree net) (c i : ℕ) → IsTerminal net i → tree_below net t c (t.up i) ≡ true
     → tree_below net t c i ≡ true
 through_step net t c i i_is above = elim (cases_eq c t.root) [
@@ -60,7 +60,7 @@ through_step net t c i i_is above = elim (cases_eq c t.root) [
   | inr not_root ↦ rw (tree_below_is net t c i not_root i_is, above) (grind (arith, cases_Bool (i == c)))
 ]
 
--- what is below a terminal is below all that have that terminal below them, by induction over its depth
+-- the same for a router of at most this depth, by induction over it
 below-through_within : (net : Net) (t : Tree net) (c m k i : ℕ) → IsTerminal net i → t.depth i ≤ k
     → tree_below net t c m ≡ true → tree_below net t m i ≡ true → tree_below net t c i ≡ true
 below-through_within net t c m zero i i_is low outer inner = elim (cases_eq i m) [
@@ -77,7 +77,7 @@ below-through_within net t c m (suc k) i i_is low outer inner = elim (cases_eq i
   ]
 ]
 
--- so it is
+-- what is below a terminal is below all that have that terminal below them
 pub below-through : (net : Net) (t : Tree net) (c m i : ℕ) → IsTerminal net i → tree_below net t c m ≡ true
     → tree_below net t m i ≡ true → tree_below net t c i ≡ true
 below-through net t c m i i_is outer inner =

@@ -92,6 +92,7 @@ pub fn least_on_path<L: Ledger>(
 {
     // (called for what it ensures: the tree is a cut tree)
     finished.net();
+    // (the edge above the deeper one is on the path, so it may be the least so far)
     let (deeper, _) = deeper_first(ladder, a, b);
     let mut least = edge_above(finished, deeper);
     let mut x = a;

@@ -1,7 +1,7 @@
 //! The weakest edge of a tree.
 ghost use Rattle.std.specs.Prelude.{◌≡◌, ◌↔◌, ◌+◌, ◌<◌, IsNone, IfSome};
 ghost use Rattle.cut_model.specs.Terminals.{terminal_count, root_of};
-ghost use Rattle.tree_state.specs.Growing.{up_of, width_of, HoldsCutTree};
+ghost use Rattle.tree_state.specs.Growing.{up_of, width_of};
 ghost use Rattle.tree_state.specs.Paths.{IsWeakest, IsGlobalCut};
 ghost use Rattle.tree_state.specs.Tables.{below};
 ghost use Rattle.path_minimum.specs.Walks.{IsWeakestBelow};

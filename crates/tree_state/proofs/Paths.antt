@@ -21,7 +21,7 @@ pub differ_comm : (p q : Bool) → differ p q ≡ differ q p
 differ_comm p q = grind (arith, cases_Bool p, cases_Bool q)
 
 -- no value differs from itself
-differ-same : (p : Bool) → differ p p ≡ false
+pub differ-same : (p : Bool) → differ p p ≡ false
 differ-same true = refl
 differ-same false = refl
 
@@ -44,7 +44,7 @@ crossed_turned net t Y a b c at_c = record {
 }
 
 -- of two terminals that differ, the deeper one isn't the root
-deeper-not_root : (net : Net) (t : Tree net) (a b : ℕ) → IsTerminal net b → t.depth b ≤ t.depth a → b ≢ a
+pub deeper-not_root : (net : Net) (t : Tree net) (a b : ℕ) → IsTerminal net b → t.depth b ≤ t.depth a → b ≢ a
     → a ≢ t.root
 deeper-not_root net t a b terminal low apart e =
     let top : t.depth a ≡ 0 = ap t.depth e ∙ t.depth_root in
@@ -54,7 +54,7 @@ deeper-not_root net t a b terminal low apart e =
     ])
 
 -- the deeper one is on the path
-on_path-deeper : (net : Net) (t : Tree net) (a b : ℕ) → IsTerminal net a → IsTerminal net b
+pub on_path-deeper : (net : Net) (t : Tree net) (a b : ℕ) → IsTerminal net a → IsTerminal net b
     → t.depth b ≤ t.depth a → b ≢ a → a ≢ t.root → IsOnPath net t.up a b a
 on_path-deeper net t a b a_is b_is low apart not_root = record {
   terminal = a_is;
@@ -62,7 +62,7 @@ on_path-deeper net t a b a_is b_is low apart not_root = record {
 }
 
 -- and what is on the path from the router above the deeper one is on the path from it
-on_path-up : (net : Net) (t : Tree net) (a b c : ℕ) → IsTerminal net a → IsTerminal net b → t.depth b ≤ t.depth a
+pub on_path-up : (net : Net) (t : Tree net) (a b c : ℕ) → IsTerminal net a → IsTerminal net b → t.depth b ≤ t.depth a
     → b ≢ a → a ≢ t.root → c ≢ t.root → IsOnPath net t.up (t.up a) b c → IsOnPath net t.up a b c
 on_path-up net t a b c a_is b_is low apart not_root c_not_root above = record {
   terminal = above.terminal;

@@ -55,7 +55,3 @@ some_up P up n i = list_any P (way_up up n i)
 -- The routers whose way up, of n routers, holds c.
 abbrev pub below : ℕ → Table → ℕ → RouterSet
 below n up c = some_up (λ j. j == c) up n
-
--- The routers of a set that hang from t.
-abbrev pub child_in : Table → ℕ → RouterSet → RouterSet
-child_in up t X i = X i && (up i == t)

@@ -59,7 +59,7 @@ impl Finished {
         self.grown.net().root()
     }
 
-    /// The router above `c`. The root stands above itself.
+    /// The router above `c`.
     #[inline]
     pub fn up(&self, c: u32) -> u32
         requires { c < self.now.net.routers }

@@ -54,6 +54,9 @@ fn table<T: Copy>(alloc: Global, routers: u32, value: T) -> Result<Vec<T>, NoMem
 impl Growing {
     /// The tree of a network before any commit: every router hangs from the root. It takes all the
     /// memory of a whole build, some 170 KB.
+    ///
+    /// # Errors
+    /// [`NoMemory`] where that memory can't be had.
     pub fn make(alloc: Global, net: Arc<Network>) -> Result<Growing, NoMemory>
         ensures { IfOk result (λ g. g ≡ record { net = arc_value net; history = [] }) }
     {
@@ -76,7 +79,7 @@ impl Growing {
         &self.net
     }
 
-    /// The router above `s`, its neighbour in the tree so far. The root stands above itself.
+    /// The router above `s`, its neighbour in the tree so far.
     #[inline]
     pub fn neighbour(&self, s: u32) -> u32
         requires { s < self.now.net.routers }

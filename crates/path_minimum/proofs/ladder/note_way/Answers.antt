@@ -3,7 +3,8 @@ use Rattle.std.proofs.lemmas.Bool.{cases_eq}
 use Rattle.cut_model.specs.Cuts.{set_of}
 use Rattle.tree_state.specs.Growing.{up_of}
 use Rattle.path_minimum.specs.Ladders.{depth_of}
-use Rattle.path_minimum.proofs.Known.{depth-unknown, known-more, put-same, put-kept}
+use Rattle.path_minimum.proofs.Known.{depth-unknown, known-more}
+use Rattle.tree_state.proofs.Decided.{put_in, put_stays}
 use Rattle.path_minimum.proofs.ladder.note_way.Goals as goal
 
 pub overflow_sub-left : goal.overflow_sub-left
@@ -39,9 +40,9 @@ loop-known-preserved c =
           before.within before.depth before.known);
       noted = λ left. rw c.put.ensures (elim (cases_eq c.loop-known.at c.args.router) [
         | inl here ↦ subst (λ (r : ℕ). set_of (set c.loop-known.known c.loop-known.at true) r ≡ true) here
-            (put-same c.loop-known.known c.loop-known.at low)
-        | inr other ↦ put-kept c.loop-known.known c.loop-known.at c.args.router low (before.noted other)
+            (put_in c.loop-known.known c.loop-known.at low)
+        | inr other ↦ put_stays c.loop-known.known c.loop-known.at c.args.router low (before.noted other)
       ]);
       kept = λ r inside. rw c.put.ensures
-          (put-kept c.loop-known.known c.loop-known.at r low (before.kept r inside));
+          (put_stays c.loop-known.known c.loop-known.at r low (before.kept r inside));
     }
