@@ -47,26 +47,46 @@ fn lone_tree(alloc: Global, net: &Arc<Network>) -> Result<Finished, NoMemory>
     Ok(Finished::hold(grow))
 }
 
-/// Gathers the reply to a line that asks for something of the network.
-fn answer(
+/// Whether a line that asks for something of the network gets this reply.
+fn answers(
     buffer: &mut ReplyBuffer,
-    version: u32,
     sheet: &Sheet,
     tree: &Finished,
     ladder: &Ladder,
     room: &mut PathRoom,
     line: &str,
-) -> Result<(), RequestFault>
+    reply: &str,
+) -> bool
     requires same { tree.now.net ≡ sheet.now.net }
     requires ladder { IsLadderOf tree.now ladder.now }
 {
-    match parse_request(line.as_bytes(), Some(sheet))? {
-        Request::Nothing | Request::Load | Request::Bye => Err(RequestFault::UnknownWord),
-        request => {
-            report_reply(buffer, version, sheet, tree, ladder, &request, room);
-            Ok(())
+    match parse_request(line.as_bytes(), Some(sheet)) {
+        Ok(Request::Nothing | Request::Load | Request::Bye) | Err(_) => false,
+        Ok(request) => {
+            report_reply(buffer, 1, sheet, tree, ladder, &request, room);
+            buffer.bytes() == reply.as_bytes()
         }
     }
+}
+
+/// Whether each of these lines gets the reply beside it.
+fn answers_all(
+    buffer: &mut ReplyBuffer,
+    sheet: &Sheet,
+    tree: &Finished,
+    ladder: &Ladder,
+    room: &mut PathRoom,
+    table: &[(&str, &str)],
+) -> bool
+    requires same { tree.now.net ≡ sheet.now.net }
+    requires ladder { IsLadderOf tree.now ladder.now }
+{
+    for &(line, reply) in table {
+        if !answers(buffer, sheet, tree, ladder, room, line, reply) {
+            return false;
+        }
+    }
+    true
 }
 
 #[test]
@@ -124,27 +144,19 @@ fn reports_of_a_chain(rt: HostRuntime) -> Result<(), Fail> {
     let ladder = Ladder::make(rt.alloc(), &tree)?;
     let mut room = PathRoom::make(rt.alloc())?;
     let mut buffer = ReplyBuffer::make(rt.alloc())?;
-    let network = "@3 NET 6\nrouter a\nrouter b\nrouter c\nlink a b 5\nlink b c 7\nEND\n";
-    for (version, line, reply) in [
-        (1, "TREE", "@1 TREE 2\nb a 5\nc b 7\n"),
-        (2, "RUN", "@2 RUN 2\nc a 5\nb c 7\n"),
-        (3, "NET", network),
-        (4, "CUT a c", "@4 CUT 5 side a\n"),
-        (5, "CUT c a", "@5 CUT 5 side b c\n"),
-        (6, "PATH c a", "@6 PATH 2\nc b 7\nb a 5\n"),
-        (7, "WEAKEST", "@7 WEAKEST 5 side b c\n"),
-    ] {
-        answer(
-            &mut buffer,
-            version,
-            &sheet,
-            &tree,
-            &ladder,
-            &mut room,
-            line,
-        )?;
-        assert_eq!(rt; buffer.bytes(), reply.as_bytes());
-    }
+    let table = [
+        ("TREE", "@1 TREE 2\nb a 5\nc b 7\n"),
+        ("RUN", "@1 RUN 2\nc a 5\nb c 7\n"),
+        (
+            "NET",
+            "@1 NET 6\nrouter a\nrouter b\nrouter c\nlink a b 5\nlink b c 7\nEND\n",
+        ),
+        ("CUT a c", "@1 CUT 5 side a\n"),
+        ("CUT c a", "@1 CUT 5 side b c\n"),
+        ("PATH c a", "@1 PATH 2\nc b 7\nb a 5\n"),
+        ("WEAKEST", "@1 WEAKEST 5 side b c\n"),
+    ];
+    assert!(rt; answers_all(&mut buffer, &sheet, &tree, &ladder, &mut room, &table));
     Ok(())
 }
 
@@ -159,22 +171,25 @@ fn reports_of_one_router(rt: HostRuntime) -> Result<(), Fail> {
     let ladder = Ladder::make(rt.alloc(), &tree)?;
     let mut room = PathRoom::make(rt.alloc())?;
     let mut buffer = ReplyBuffer::make(rt.alloc())?;
-    for (line, reply) in [
+    let table = [
         ("TREE", "@1 TREE 0\n"),
         ("RUN", "@1 RUN 0\n"),
         ("NET", "@1 NET 2\nrouter a\nEND\n"),
-    ] {
-        answer(&mut buffer, 1, &sheet, &tree, &ladder, &mut room, line)?;
-        assert_eq!(rt; buffer.bytes(), reply.as_bytes());
-    }
-    assert_eq!(rt;
-        parse_request(b"CUT a a", Some(&sheet)),
-        Err(RequestFault::SameRouter)
-    );
-    assert_eq!(rt;
-        parse_request(b"WEAKEST", Some(&sheet)),
-        Err(RequestFault::OneRouter)
-    );
+    ];
+    assert!(rt; answers_all(&mut buffer, &sheet, &tree, &ladder, &mut room, &table));
+    Ok(())
+}
+
+#[test]
+fn a_tree_put_into_a_sink(rt: HostRuntime) -> Result<(), Fail> {
+    let mut reader = Reader::begin(rt.alloc())?;
+    assert_eq!(rt; reader.line(b"router a"), Fed::More);
+    assert_eq!(rt; reader.line(b"END"), Fed::Ended);
+    let sheet = reader.close()?;
+    assert_eq!(rt; sheet.net().routers(), 1);
+    let tree = lone_tree(rt.alloc(), sheet.net())?;
+    let ladder = Ladder::make(rt.alloc(), &tree)?;
+    let mut room = PathRoom::make(rt.alloc())?;
     let mut sink = MemorySink::make(rt.alloc(), 100, Vec::new(rt.alloc()))?;
     write_reply(
         2,
@@ -186,6 +201,23 @@ fn reports_of_one_router(rt: HostRuntime) -> Result<(), Fail> {
         &mut sink,
     )?;
     assert_eq!(rt; sink.written(), b"@2 TREE 0\n".as_slice());
+    Ok(())
+}
+
+#[test]
+fn requests_of_one_router(rt: HostRuntime) -> Result<(), Fail> {
+    let mut reader = Reader::begin(rt.alloc())?;
+    assert_eq!(rt; reader.line(b"router a"), Fed::More);
+    assert_eq!(rt; reader.line(b"END"), Fed::Ended);
+    let sheet = reader.close()?;
+    assert_eq!(rt;
+        parse_request(b"CUT a a", Some(&sheet)),
+        Err(RequestFault::SameRouter)
+    );
+    assert_eq!(rt;
+        parse_request(b"WEAKEST", Some(&sheet)),
+        Err(RequestFault::OneRouter)
+    );
     Ok(())
 }
 
