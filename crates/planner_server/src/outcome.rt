@@ -12,7 +12,8 @@ pub enum Status {
     BadWords,
     /// The source failed. The replies to all items that were whole before are written.
     ReadFault,
-    /// The sink failed. At most a part of the last reply is missing.
+    /// The sink failed. A front of the items is answered, but for at most a part of the last of these
+    /// replies.
     WriteFault,
     /// There was no memory to begin with. Nothing was read or written.
     NoMemory,

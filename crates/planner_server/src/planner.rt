@@ -1,5 +1,5 @@
 //! The top call.
-ghost use Rattle.std.specs.Prelude.{◌≡◌, ℕ, ◌+◌, ◌^◌, ◌<◌, ◌≤◌, ◌↔◌, ◌⊎◌, ◌++◌, List, [], Some, None, true, false};
+ghost use Rattle.std.specs.Prelude.{◌≡◌, ℕ, ◌^◌, ◌<◌, ◌≤◌, ◌↔◌, ◌⊎◌, ◌++◌, List, [], Some, false};
 ghost use Rattle.std.specs.Prelude.{length, map, IfOk, IsTrue};
 ghost use Rattle.std.specs.String.{string_bytes};
 ghost use Rattle.planner_server.specs.Commands.{IsPlan};
@@ -90,6 +90,10 @@ fn serve_both<S: Source, K: Sink>(
     ensures completes { (bytes : List ℕ) → S.left source.old ≡ Some bytes → length bytes < 2 ^ 30
         → (Rose (S.read_faults source.old) (S.read_faults source.new) → ⊥)
         → (Rose (K.write_faults sink.old) (K.write_faults sink.new) → ⊥) → result ≡ SessionEnd.Done }
+    ensures always_too_long { (taken rest : List ℕ) → S.left source.old ≡ Some (taken ++ rest)
+        → S.left source.new ≡ Some rest → length taken ≡ 2 ^ 30 → S.ended source.new ≡ false
+        → NoBye (items_of false taken)
+        → (Rose (K.write_faults sink.old) (K.write_faults sink.new) → ⊥) → result ≡ SessionEnd.TooLong }
     ensures reads { S.read_faults source.old ≤ S.read_faults source.new }
     ensures writes { K.write_faults sink.old ≤ K.write_faults sink.new }
     ensures beside_source { S.beside_source source.new ≡ S.beside_source source.old }
@@ -141,7 +145,7 @@ pub fn run<S: Source, K: Sink>(
         → EndsLong (S.left source.old) (K.written sink.old) (S.left source.new) (S.ended source.new)
         (K.written sink.new) (views_of result.records.items) }
 
-    // At most a part of the last reply is missing.
+    // A front of the items is answered, but for at most a part of the last of these replies.
     ensures write_fault { result.status ≡ Status.WriteFault
         → Breaks (S.left source.old) (K.written sink.old) (S.left source.new) (S.ended source.new)
         (K.written sink.new) (views_of result.records.items) }

@@ -1,6 +1,7 @@
 -- Two terminals have one ordered path.
-use Rattle.std.proofs.Common.{◌≡◌, ◌⊎◌, inl, inr, ℕ, zero, suc, ◌<◌, List, [], ◌∷◌, ◌++◌, ap, arith, get_or, length, map}
-use Rattle.std.proofs.Common.{refl, sym, subst, ◌∙◌}
+use Rattle.std.proofs.Common.{◌≡◌, ◌⊎◌, inl, inr, ℕ, zero, suc, ◌<◌, List, [], ◌∷◌, ◌++◌}
+use Rattle.std.proofs.Common.{ap, arith, get_or, length, map}
+use Rattle.std.proofs.Common.{refl, sym, ◌∙◌}
 use Rattle.std.proofs.lemmas.List.{get_or-map, length-map, reverse-reverse}
 use Rattle.std.proofs.lemmas.List.Kept.{AllPairs-from_increasing}
 use Rattle.std.specs.Prelude.{AllPairs, Contains, reverse}
@@ -19,7 +20,8 @@ Rises size (x ∷ xs) = ((c : ℕ) → Contains xs c → size x < size c) × Ris
 rises : (size : ℕ → ℕ) (xs : List ℕ) → AllPairs (λ x y. x < y) (map size xs) → Rises size xs
 unfolding Rises
 rises size [] pairs = tt
-rises size (x ∷ xs) pairs = (later, rises size xs (λ i j d before within. pairs (suc i) (suc j) d (omega arith) (omega arith)))
+rises size (x ∷ xs) pairs =
+    (later, rises size xs (λ i j d before within. pairs (suc i) (suc j) d (omega arith) (omega arith)))
   where
     later : (c : ℕ) → Contains xs c → size x < size c
     later c found =
@@ -91,8 +93,10 @@ path_once net up a b children others p q =
     (λ c found. (q.front_is c).1 ((p.front_is c).0 found)) (λ c found. (p.front_is c).1 ((q.front_is c).0 found)) in
     let turned : reverse p.behind ≡ reverse q.behind =
     increasing_once size (reverse p.behind) (reverse q.behind) p.behind_falls q.behind_falls
-    (λ c found. contains-turned q.behind c ((q.behind_is c).1 ((p.behind_is c).0 (contains-turned_back p.behind c found))))
-    (λ c found. contains-turned p.behind c ((p.behind_is c).1 ((q.behind_is c).0 (contains-turned_back q.behind c found)))) in
+    (λ c found. contains-turned q.behind c
+    ((q.behind_is c).1 ((p.behind_is c).0 (contains-turned_back p.behind c found))))
+    (λ c found. contains-turned p.behind c
+    ((p.behind_is c).1 ((q.behind_is c).0 (contains-turned_back q.behind c found)))) in
     let behind : p.behind ≡ q.behind =
     sym (reverse-reverse p.behind) ∙ ap reverse turned ∙ reverse-reverse q.behind in
     p.joins ∙ rw (front, behind) refl ∙ sym q.joins

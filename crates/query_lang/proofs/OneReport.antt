@@ -1,5 +1,5 @@
 -- A request has one report.
-use Rattle.std.proofs.Common.{◌≡◌, ℕ, ◌<◌, List, Bool, false, ap, arith, codes, refl, sym, ◌∙◌, length}
+use Rattle.std.proofs.Common.{◌≡◌, ℕ, ◌<◌, List, Bool, false, ap, arith, refl, sym, ◌∙◌}
 use Rattle.std.proofs.lemmas.List.{ext_get_or}
 use Rattle.cut_model.specs.Net.{Net}
 use Rattle.cut_model.specs.Cuts.{RouterSet}
@@ -9,7 +9,6 @@ use Rattle.tree_state.specs.Growing.{GrowingView, up_of, width_of}
 use Rattle.tree_state.specs.Paths.{IsLeastEdge, IsWeakest, side_for}
 use Rattle.tree_state.specs.Shown.{ShowsSet}
 use Rattle.tree_state.specs.Tables.{Table, below}
-use Rattle.query_lang.specs.Replies.{cut_text}
 use Rattle.query_lang.specs.Reports.{IsCutReport, IsPathReport, IsReport, IsWeakestReport}
 use Rattle.query_lang.specs.Trees.{path_text}
 use Rattle.query_lang.specs.declared.request.Request.{Request}

@@ -7,7 +7,7 @@ use Rattle.std.specs.Str.{bytes_eq}
 use Rattle.std.specs.declared.option.Option.{Option}
 use Rattle.cut_model.specs.Terminals.{terminal_count}
 use Rattle.network_text.specs.Sheets.{SheetView}
-use Rattle.query_lang.specs.Requests.{IsReported, about, ends_of, of_network, request_of, weakest_of, words_ask}
+use Rattle.query_lang.specs.Requests.{about, ends_of, of_network, request_of, weakest_of, words_ask}
 use Rattle.query_lang.specs.declared.request.Request.{Request}
 use Rattle.query_lang.specs.declared.request.Request.TheVariants.{Nothing, Load, Cut, Path, Tree, Run, Net}
 use Rattle.query_lang.specs.declared.request.Request.TheVariants.{Weakest, Bye}
@@ -31,20 +31,6 @@ IsOther (Ok Nothing) = ⊥
 IsOther (Ok Load) = ⊥
 IsOther (Ok Bye) = ⊥
 IsOther answer = Unit {0}
-
--- A request whose reply is a report is answered from a record.
-pub other_of_reported : (request : Request) → IsReported request → IsOther (Ok request)
-other_of_reported Nothing reported = absurd reported
-other_of_reported Load reported = absurd reported
-other_of_reported Bye reported = absurd reported
-other_of_reported request reported = tt
-
--- And a request that is answered from a record has a report for its reply.
-pub reported_of_other : (request : Request) → IsOther (Ok request) → IsReported request
-reported_of_other Nothing other = absurd other
-reported_of_other Load other = absurd other
-reported_of_other Bye other = absurd other
-reported_of_other request other = tt
 
 -- Such an answer is right for a line that is none of the three.
 pub kind_of_other : (answer : Result Request RequestFault) (load bye : Bool) → IsOther answer → load ≡ false

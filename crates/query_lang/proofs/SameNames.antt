@@ -27,7 +27,8 @@ same_name names first second None other is also refused = absurd (cc)
 same_name names first second (Some a) None is also refused = absurd (cc)
 same_name names first second (Some a) (Some b) is also refused = chosen (a == b) refl refused
   where
-    chosen : (same : Bool) → (a == b) ≡ same → if◌then◌else◌ {A = Result (ℕ × ℕ) RequestFault} same (Err SameRouter) (Ok (a, b)) ≡ Err SameRouter
+    chosen : (same : Bool) → (a == b) ≡ same
+        → if◌then◌else◌ {A = Result (ℕ × ℕ) RequestFault} same (Err SameRouter) (Ok (a, b)) ≡ Err SameRouter
         → IsSome (Some a) × (first ≡ second)
     chosen true equal refused = (refl, one_name names first second a is (also ∙ ap Some (sym (eqb-true a b equal))))
     chosen false equal refused = absurd (cc)

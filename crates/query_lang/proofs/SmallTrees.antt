@@ -94,7 +94,8 @@ pub record MayCommit (grow : GrowingView) (cut : CutView) : Type 0 where
   pub neighbour : cut.neighbour ≡ (tables (root_of grow.net) grow.history).up cut.router
 
 -- A cut that an entry holds may be committed where the entry may follow.
-pub may_commit : (grow : GrowingView) (cut : CutView) (before : List Entry) (entry : Entry) → MayFollow chain before entry
+pub may_commit : (grow : GrowingView) (cut : CutView) (before : List Entry) (entry : Entry)
+    → MayFollow chain before entry
     → grow.net ≡ chain → grow.history ≡ before → cut.router ≡ entry.router → cut.neighbour ≡ entry.neighbour
     → MayCommit grow cut
 may_commit grow cut before entry may net history router neighbour = record {

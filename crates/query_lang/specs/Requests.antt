@@ -1,5 +1,6 @@
 -- What a request line asks for.
-use Rattle.std.specs.Prelude.{◌≢◌, ℕ, ◌≤◌, nat_lt, List, [], ◌∷◌, ◌==◌, if◌then◌else◌, codes, Some, None, Result, Ok, Err}
+use Rattle.std.specs.Prelude.{◌≢◌, ℕ, ◌≤◌, nat_lt, List, [], ◌∷◌, ◌==◌, if◌then◌else◌, codes}
+use Rattle.std.specs.Prelude.{Some, None, Result, Ok, Err}
 use Rattle.std.specs.Str.{bytes_eq}
 use Rattle.std.specs.declared.option.Option.{Option}
 use Rattle.cut_model.specs.Terminals.{IsTerminal, terminal_count}

@@ -1,9 +1,9 @@
 //! The request lines and the replies.
 //!
 //! The layer above parses a line and gets what the line asks for, exactly by the definitions in
-//! `specs/Requests.antt`, and writes replies whose bytes are the texts of `specs/Replies.antt`, to
-//! a sink or into a `ReplyBuffer`, in which each of them surely fits. Only the making of a buffer
-//! takes memory.
+//! `specs/Requests.antt`, and writes replies, to a sink or into a `ReplyBuffer`, in which each of them
+//! surely fits. What a reply from a network and its tree says is defined in `specs/Reports.antt`, and
+//! its texts in `specs/Trees.antt` and `specs/Replies.antt`. Only the making of a buffer takes memory.
 #![tactic(auto)]
 
 mod buffer;

@@ -1,7 +1,6 @@
 //! Replies of one line, and the first lines of longer ones, written to a sink. Each begins with the
 //! version of the network that it speaks of, 0 where there is none, and ends with a line feed. No call
 //! takes memory.
-ghost use Rattle.std.specs.Prelude.{length};
 ghost use Rattle.query_lang.specs.Replies.{bye_text, head_text, line_piece, loaded_text};
 ghost use Rattle.query_lang.specs.Replies.{refusal_head, refused_text};
 ghost use Rattle.wires.specs.Puts.{Puts};

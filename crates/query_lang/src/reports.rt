@@ -1,5 +1,5 @@
 //! Replies that are read from a network and its tree.
-ghost use Rattle.std.specs.Prelude.{◌≡◌, ◌≤◌, Some, length};
+ghost use Rattle.std.specs.Prelude.{◌≡◌, ◌≤◌, Some};
 ghost use Rattle.cut_model.specs.Terminals.{terminal_count};
 ghost use Rattle.path_minimum.specs.Ladders.{IsLadderOf};
 ghost use Rattle.query_lang.specs.Replies.{net_text, sheet_lines};

@@ -6,4 +6,5 @@ pub mod Loading
 pub mod Requesting
 pub mod Building
 pub mod Completing
+pub mod Deciding
 pub mod Examples

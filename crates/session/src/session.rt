@@ -1,6 +1,7 @@
 //! A session: its scratch, and the call that serves one peer.
-ghost use Rattle.std.specs.Prelude.{◌≡◌, ◌≤◌, ◌<◌, ◌^◌, ℕ, List, Some, length};
+ghost use Rattle.std.specs.Prelude.{◌≡◌, ◌≤◌, ◌<◌, ◌^◌, ◌++◌, ℕ, List, Some, false, length};
 ghost use Rattle.session.specs.Turns.{EndsAs};
+ghost use Rattle.text_forms.specs.Items.{NoBye, items_of};
 ghost use Rattle.wires.specs.Causes.{Rose};
 
 use crate::intake::Intake;
@@ -21,8 +22,8 @@ pub struct Session {
 }
 
 impl Session {
-    /// Takes all memory that a session needs beside that of the texts that it loads. So many workers
-    /// build its trees, 1 to 16; for now the session builds them alone, whatever their number.
+    /// Takes all memory that a session needs beside that of the texts that it loads. Its trees may be
+    /// built by so many workers, 1 to 16; the session builds them alone, whatever their number.
     ///
     /// # Errors
     /// [`NoMemory`] where that memory can't be had.
@@ -63,6 +64,12 @@ pub fn serve_session<H: Shelf, P: Peer>(
     ensures completes { (bytes : List ℕ) → P.left peer.old ≡ Some bytes → length bytes < 2 ^ 30
         → (Rose (P.read_faults peer.old) (P.read_faults peer.new) → ⊥)
         → (Rose (P.write_faults peer.old) (P.write_faults peer.new) → ⊥) → result ≡ SessionEnd.Done }
+
+    // Too many bytes always end so, where no put failed.
+    ensures always_too_long { (taken rest : List ℕ) → P.left peer.old ≡ Some (taken ++ rest)
+        → P.left peer.new ≡ Some rest → length taken ≡ 2 ^ 30 → P.ended peer.new ≡ false
+        → NoBye (items_of false taken)
+        → (Rose (P.write_faults peer.old) (P.write_faults peer.new) → ⊥) → result ≡ SessionEnd.TooLong }
 
     // Each fault has its cause, and no count of faults falls.
     ensures read_fault { result ≡ SessionEnd.ReadFault → Rose (P.read_faults peer.old) (P.read_faults peer.new) }

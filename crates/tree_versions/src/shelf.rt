@@ -1,5 +1,5 @@
 //! What a shelf of records is.
-ghost use Rattle.std.specs.Prelude.{◌≡◌, ℕ, ◌<◌, ◌≤◌, List, Bool, Some, length};
+ghost use Rattle.std.specs.Prelude.{◌≡◌, ◌≢◌, ℕ, ◌<◌, ◌≤◌, List, Bool, true, Some, Err, length};
 ghost use Rattle.std.specs.Arc.{arc_value};
 ghost use Rattle.tree_versions.specs.Records.{AreCutTrees, AreFinished, RecordView, record_at as at_version};
 ghost use Rattle.tree_versions.specs.Shelves.{Looks, Publishes};
@@ -31,6 +31,9 @@ pub trait Shelf {
     /// Nobody else publishes on the list.
     ghost alone: { Self → Bool };
 
+    /// Publishing surely wants no memory.
+    ghost sure: { Self → Bool };
+
     /// At most 256 records are seen.
     ghost few: { (shelf : Self) → length (seen shelf) ≤ 256 };
 
@@ -45,7 +48,8 @@ pub trait Shelf {
         ensures seen { Looks (alone self.old) (seen self.old) (seen self.new) }
         ensures count { result ≡ length (seen self.new) }
         ensures own { own self.new ≡ own self.old }
-        ensures alone { alone self.new ≡ alone self.old };
+        ensures alone { alone self.new ≡ alone self.old }
+        ensures sure { sure self.new ≡ sure self.old };
 
     /// The record of a version that was seen. It takes no memory and waits for nobody.
     fn record_at(&self, version: u32) -> &Record
@@ -61,5 +65,7 @@ pub trait Shelf {
     fn publish(&mut self, new: Arc<Record>) -> Result<u32, PublishFault>
         ensures published { Publishes (alone self.old) (seen self.old) (seen self.new) (arc_value new)
             (own self.old) (own self.new) result }
-        ensures alone { alone self.new ≡ alone self.old };
+        ensures memory { sure self.old ≡ true → result ≢ Err PublishFault.NoMemory }
+        ensures alone { alone self.new ≡ alone self.old }
+        ensures sure { sure self.new ≡ sure self.old };
 }

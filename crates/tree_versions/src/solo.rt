@@ -54,6 +54,8 @@ impl Shelf for SoloShelf {
 
     ghost alone = { λ _. true };
 
+    ghost sure = { λ _. true };
+
     ghost runs = { λ shelf. shelf.runs };
 
     ghost trees = { λ shelf. shelf.trees };

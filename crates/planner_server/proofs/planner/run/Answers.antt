@@ -1,6 +1,6 @@
 use Rattle.std.proofs.Common.{◌∙◌, ap, inl}
 use Rattle.planner_server.specs.Commands.{status_of}
-use Rattle.planner_server.proofs.Deciding.{none_taken, always_long}
+use Rattle.planner_server.proofs.Deciding.{none_taken}
 use Rattle.planner_server.proofs.planner.run.Goals as goal
 
 pub returns-then-not-is_plan-clause-always_too_long : goal.returns-then-not-is_plan-clause-always_too_long
@@ -13,9 +13,8 @@ returns-in_default-clause-always_too_long g c = λ taken rest before after many 
 
 pub returns-clause-always_too_long : goal.returns-clause-always_too_long
 returns-clause-always_too_long g c = λ taken rest before after many unmet quiet sound.
-    c.from.ensures ∙ ap status_of (always_long _ _ _ _ _ _ _ taken rest c.serve_both-end.ensures.ends before after many
-    unmet quiet
-    (λ failed. sound (c.serve_both-end.ensures.write_fault failed)))
+    c.from.ensures
+    ∙ ap status_of (c.serve_both-end.ensures.always_too_long taken rest before after many unmet quiet sound)
 
 pub returns-clause-completes : goal.returns-clause-completes
 returns-clause-completes g c = λ bytes words is few reads puts.

@@ -28,7 +28,8 @@ returns g c =
     record {
       puts = record {
         text = cut_text c.args.version (codes "CUT") least.result.width sheet.names side;
-        wanted = cut_report c.args.version sheet tree c.args.a c.args.b least.result.child least.result.width side limits
+        wanted = cut_report c.args.version sheet tree c.args.a c.args.b least.result.child least.result.width side
+            limits
             a_in b_in least.ensures.edge least.ensures.width least.ensures.least c.side_holding-side.ensures;
         puts = c.write_cut.ensures.puts;
       };

@@ -1,4 +1,4 @@
-use Rattle.std.proofs.Common.{◌≡◌, [], ◌∷◌, ◌++◌, List, ap, refl, true, false, ◌∙◌, rules}
+use Rattle.std.proofs.Common.{◌≡◌, [], ◌∷◌, ◌++◌, ap, refl, true, false, ◌∙◌, rules}
 use Rattle.std.specs.Arc.{arc_value}
 use Rattle.tree_state.specs.Growing.{GrowingView}
 use Rattle.tree_state.specs.History.{entry_of}

@@ -2,7 +2,7 @@ use Rattle.std.proofs.Common.{◌≡◌, [], ap, rules, subst, sym, ◌∙◌}
 use Rattle.std.specs.Arc.{arc_value}
 use Rattle.cut_model.specs.Net.{Net, IsInLimits}
 use Rattle.tree_state.specs.Growing.{GrowingView}
-use Rattle.query_lang.proofs.SmallTrees.{IsFinished, lone_finished}
+use Rattle.query_lang.proofs.SmallTrees.{lone_finished}
 use Rattle.query_lang.proofs.tests.lone_tree.Goals as goal
 
 pub hold-requires : goal.hold-requires
@@ -11,6 +11,7 @@ hold-requires c =
     let net : c.in_ok-grow.grow.net ≡ arc_value c.args.net.now =
     ap (λ (g : GrowingView). g.net) c.in_ok-grow.ensures ∙ clone in
     let history : c.in_ok-grow.grow.history ≡ [] = ap (λ (g : GrowingView). g.history) c.in_ok-grow.ensures in
-    let limits = subst (λ (n : Net). IsInLimits n.routers n.links) (c.deref.ensures ∙ sym net) c.routers.ensures.limits in
+    let limits =
+    subst (λ (n : Net). IsInLimits n.routers n.links) (c.deref.ensures ∙ sym net) c.routers.ensures.limits in
     let finished = lone_finished c.in_ok-grow.grow limits (ap (λ (n : Net). n.routers) net ∙ c.requires) history in
     record { complete = finished.complete; tree = finished.cut_tree }
