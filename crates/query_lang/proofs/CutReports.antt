@@ -1,6 +1,6 @@
 -- What the least edges of a tree make of a reply.
 use Rattle.std.proofs.Common.{◌≡◌, ℕ, ◌<◌, List, Bool, codes, refl}
-use Rattle.cut_model.specs.Net.{Net, IsInLimits}
+use Rattle.cut_model.specs.Net.{IsInLimits}
 use Rattle.cut_model.specs.Cuts.{IsLeastCut}
 use Rattle.cut_model.specs.Terminals.{root_of}
 use Rattle.network_text.specs.Sheets.{SheetView}

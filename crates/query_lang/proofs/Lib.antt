@@ -5,6 +5,8 @@ pub mod Examples
 pub mod Fits
 pub mod Lengths
 pub mod NameTexts
+pub mod OnePath
+pub mod OneReport
 pub mod PathLengths
 pub mod RequestKinds
 pub mod SameNames

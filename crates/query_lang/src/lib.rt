@@ -8,6 +8,7 @@
 
 mod buffer;
 mod cuts;
+pub mod laws;
 mod replies;
 mod reports;
 mod request;

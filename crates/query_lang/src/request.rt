@@ -161,8 +161,8 @@ fn parse_weakest(text: &[u8], sheet: Option<&Sheet>) -> Result<Request, RequestF
     ensures of { IfOk result (IsOf (option_copied sheet.entry)) }
 {
     let request = parse_alone(Request::Weakest, text)?;
-    let sheet = sheet.ok_or(RequestFault::NoNetwork)?;
-    if sheet.net().terminals() < 2 {
+    let known = sheet.ok_or(RequestFault::NoNetwork)?;
+    if known.net().terminals() < 2 {
         return Err(RequestFault::OneRouter);
     }
     Ok(request)

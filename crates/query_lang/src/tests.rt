@@ -1,14 +1,15 @@
 //! The replies, byte for byte as a client reads them, with ample memory.
 ghost use Rattle.std.specs.Prelude.{◌≡◌, [], ◌∷◌, IfOk};
 ghost use Rattle.std.specs.Arc.{arc_value};
+ghost use Rattle.path_minimum.specs.Ladders.{IsLadderOf};
 
 use crate::{
-    ReplyBuffer, Request, RequestFault, bye_reply, cut_reply, loaded_reply, parse_request,
-    refusal_reply, report_reply, write_bye, write_cut, write_head, write_loaded, write_refusal,
-    write_reply,
+    ReplyBuffer, Request, RequestFault, bye_reply, loaded_reply, parse_request, refusal_reply,
+    report_reply, write_bye, write_head, write_loaded, write_refusal, write_reply,
 };
 use cut_model::{LeastCut, Link, Network, NoMemory, Side};
-use network_text::{Fed, Reader};
+use network_text::{Fed, Reader, Sheet};
+use path_minimum::{Ladder, PathRoom};
 use std::alloc::Global;
 use std::sync::Arc;
 use std::test::Fail;
@@ -46,6 +47,28 @@ fn lone_tree(alloc: Global, net: &Arc<Network>) -> Result<Finished, NoMemory>
     Ok(Finished::hold(grow))
 }
 
+/// Gathers the reply to a line that asks for something of the network.
+fn answer(
+    buffer: &mut ReplyBuffer,
+    version: u32,
+    sheet: &Sheet,
+    tree: &Finished,
+    ladder: &Ladder,
+    room: &mut PathRoom,
+    line: &str,
+) -> Result<(), RequestFault>
+    requires same { tree.now.net ≡ sheet.now.net }
+    requires ladder { IsLadderOf tree.now ladder.now }
+{
+    match parse_request(line.as_bytes(), Some(sheet))? {
+        Request::Nothing | Request::Load | Request::Bye => Err(RequestFault::UnknownWord),
+        request => {
+            report_reply(buffer, version, sheet, tree, ladder, &request, room);
+            Ok(())
+        }
+    }
+}
+
 #[test]
 fn replies_without_a_sheet(rt: HostRuntime) -> Result<(), Fail> {
     let links = vec![in rt.alloc(); Link { a: 0, b: 1, cap: 5 }]?;
@@ -63,7 +86,7 @@ fn replies_without_a_sheet(rt: HostRuntime) -> Result<(), Fail> {
 }
 
 #[test]
-fn requests_and_replies_of_a_network(rt: HostRuntime) -> Result<(), Fail> {
+fn requests_of_a_network(rt: HostRuntime) -> Result<(), Fail> {
     let mut reader = Reader::begin(rt.alloc())?;
     assert_eq!(rt; reader.line(b"link a b 5"), Fed::More);
     assert_eq!(rt; reader.line(b"link b c 7"), Fed::More);
@@ -73,16 +96,17 @@ fn requests_and_replies_of_a_network(rt: HostRuntime) -> Result<(), Fail> {
         parse_request(b"CUT a c", Some(&sheet)),
         Ok(Request::Cut(0, 2))
     );
+    assert_eq!(rt;
+        parse_request(b"PATH c a", Some(&sheet)),
+        Ok(Request::Path(2, 0))
+    );
     assert_eq!(rt; parse_request(b"TREE", Some(&sheet)), Ok(Request::Tree));
     assert_eq!(rt; parse_request(b"RUN", Some(&sheet)), Ok(Request::Run));
     assert_eq!(rt; parse_request(b"NET", Some(&sheet)), Ok(Request::Net));
-    assert_eq!(rt; sheet.net().routers(), 3);
-    let mut side = Side::empty(3);
-    side.put(1);
-    side.put(2);
-    let mut buffer = ReplyBuffer::make(rt.alloc())?;
-    cut_reply(&mut buffer, 1, 5, &sheet, &side);
-    assert_eq!(rt; buffer.bytes(), b"@1 CUT 5 side b c\n".as_slice());
+    assert_eq!(rt;
+        parse_request(b"WEAKEST", Some(&sheet)),
+        Ok(Request::Weakest)
+    );
     Ok(())
 }
 
@@ -96,15 +120,31 @@ fn reports_of_a_chain(rt: HostRuntime) -> Result<(), Fail> {
     let links = vec![in rt.alloc(); Link { a: 0, b: 1, cap: 5 }, Link { a: 1, b: 2, cap: 7 }]?;
     let chain = Network::make(3, links).map_err(|_| "refused")?;
     assert!(rt; sheet.net().same_as(&chain));
-    let finished = chain_tree(rt.alloc(), sheet.net())?;
+    let tree = chain_tree(rt.alloc(), sheet.net())?;
+    let ladder = Ladder::make(rt.alloc(), &tree)?;
+    let mut room = PathRoom::make(rt.alloc())?;
     let mut buffer = ReplyBuffer::make(rt.alloc())?;
-    report_reply(&mut buffer, 1, &sheet, &finished, &Request::Tree);
-    assert_eq!(rt; buffer.bytes(), b"@1 TREE 2\nb a 5\nc b 7\n".as_slice());
-    report_reply(&mut buffer, 2, &sheet, &finished, &Request::Run);
-    assert_eq!(rt; buffer.bytes(), b"@2 RUN 2\nc a 5\nb c 7\n".as_slice());
-    report_reply(&mut buffer, 3, &sheet, &finished, &Request::Net);
-    let lines = "@3 NET 6\nrouter a\nrouter b\nrouter c\nlink a b 5\nlink b c 7\nEND\n";
-    assert_eq!(rt; buffer.bytes(), lines.as_bytes());
+    let network = "@3 NET 6\nrouter a\nrouter b\nrouter c\nlink a b 5\nlink b c 7\nEND\n";
+    for (version, line, reply) in [
+        (1, "TREE", "@1 TREE 2\nb a 5\nc b 7\n"),
+        (2, "RUN", "@2 RUN 2\nc a 5\nb c 7\n"),
+        (3, "NET", network),
+        (4, "CUT a c", "@4 CUT 5 side a\n"),
+        (5, "CUT c a", "@5 CUT 5 side b c\n"),
+        (6, "PATH c a", "@6 PATH 2\nc b 7\nb a 5\n"),
+        (7, "WEAKEST", "@7 WEAKEST 5 side b c\n"),
+    ] {
+        answer(
+            &mut buffer,
+            version,
+            &sheet,
+            &tree,
+            &ladder,
+            &mut room,
+            line,
+        )?;
+        assert_eq!(rt; buffer.bytes(), reply.as_bytes());
+    }
     Ok(())
 }
 
@@ -115,13 +155,37 @@ fn reports_of_one_router(rt: HostRuntime) -> Result<(), Fail> {
     assert_eq!(rt; reader.line(b"END"), Fed::Ended);
     let sheet = reader.close()?;
     assert_eq!(rt; sheet.net().routers(), 1);
-    let finished = lone_tree(rt.alloc(), sheet.net())?;
+    let tree = lone_tree(rt.alloc(), sheet.net())?;
+    let ladder = Ladder::make(rt.alloc(), &tree)?;
+    let mut room = PathRoom::make(rt.alloc())?;
+    let mut buffer = ReplyBuffer::make(rt.alloc())?;
+    for (line, reply) in [
+        ("TREE", "@1 TREE 0\n"),
+        ("RUN", "@1 RUN 0\n"),
+        ("NET", "@1 NET 2\nrouter a\nEND\n"),
+    ] {
+        answer(&mut buffer, 1, &sheet, &tree, &ladder, &mut room, line)?;
+        assert_eq!(rt; buffer.bytes(), reply.as_bytes());
+    }
+    assert_eq!(rt;
+        parse_request(b"CUT a a", Some(&sheet)),
+        Err(RequestFault::SameRouter)
+    );
+    assert_eq!(rt;
+        parse_request(b"WEAKEST", Some(&sheet)),
+        Err(RequestFault::OneRouter)
+    );
     let mut sink = MemorySink::make(rt.alloc(), 100, Vec::new(rt.alloc()))?;
-    write_reply(1, &sheet, &finished, &Request::Tree, &mut sink)?;
-    write_reply(1, &sheet, &finished, &Request::Run, &mut sink)?;
-    write_reply(1, &sheet, &finished, &Request::Net, &mut sink)?;
-    let replies = "@1 TREE 0\n@1 RUN 0\n@1 NET 2\nrouter a\nEND\n";
-    assert_eq!(rt; sink.written(), replies.as_bytes());
+    write_reply(
+        2,
+        &sheet,
+        &tree,
+        &ladder,
+        &Request::Tree,
+        &mut room,
+        &mut sink,
+    )?;
+    assert_eq!(rt; sink.written(), b"@2 TREE 0\n".as_slice());
     Ok(())
 }
 
@@ -140,21 +204,6 @@ fn replies_put_into_a_sink(rt: HostRuntime) -> Result<(), Fail> {
 }
 
 #[test]
-fn a_cut_put_into_a_sink(rt: HostRuntime) -> Result<(), Fail> {
-    let mut reader = Reader::begin(rt.alloc())?;
-    assert_eq!(rt; reader.line(b"link a b 5"), Fed::More);
-    assert_eq!(rt; reader.line(b"END"), Fed::Ended);
-    let sheet = reader.close()?;
-    assert_eq!(rt; sheet.net().routers(), 2);
-    let mut side = Side::empty(2);
-    side.put(0);
-    let mut sink = MemorySink::make(rt.alloc(), 100, Vec::new(rt.alloc()))?;
-    write_cut(1, 5, &sheet, &side, &mut sink)?;
-    assert_eq!(rt; sink.written(), b"@1 CUT 5 side a\n".as_slice());
-    Ok(())
-}
-
-#[test]
 fn faults_in_words(rt: HostRuntime) -> Result<(), Fail> {
     let fault = parse_request(b"CUT a b", None)
         .err()
@@ -164,5 +213,10 @@ fn faults_in_words(rt: HostRuntime) -> Result<(), Fail> {
         "no network yet"
     );
     assert_eq!(rt; fault.number(), 6);
+    assert_eq!(rt;
+        format!(in rt.alloc(); "{}", RequestFault::OneRouter)?.as_str(),
+        "only one router"
+    );
+    assert_eq!(rt; RequestFault::OneRouter.number(), 8);
     Ok(())
 }

@@ -1,4 +1,4 @@
-use Rattle.std.proofs.Common.{ap, codes, subst, sym}
+use Rattle.std.proofs.Common.{codes, subst, sym}
 use Rattle.cut_model.specs.Net.{Net, IsInLimits}
 use Rattle.query_lang.specs.Replies.{cut_text}
 use Rattle.query_lang.proofs.CutReports.{weakest_report}

@@ -1,4 +1,4 @@
-use Rattle.std.proofs.Common.{◌≡◌, ◌<◌, ◌∙◌, ap, arith}
+use Rattle.std.proofs.Common.{◌∙◌, ap, arith}
 use Rattle.cut_model.specs.Net.{Net}
 use Rattle.cut_model.proofs.Terminals.{all_terminals}
 use Rattle.query_lang.proofs.request.find_ends.Goals as goal

@@ -1,4 +1,4 @@
-use Rattle.std.proofs.Common.{◌≡◌, length, take, take_all}
+use Rattle.std.proofs.Common.{◌≡◌, take, take_all}
 use Rattle.network_text.proofs.PutLines.{puts_more, puts_stopped}
 use Rattle.query_lang.specs.Trees.{child_line}
 use Rattle.query_lang.proofs.trees.write_edges.Goals as goal
