@@ -9,7 +9,7 @@ ghost use Rattle.path_minimum.specs.Walks.{IsWeakestBelow};
 use crate::least_edge::{PathLeast, edge_above, lesser};
 use tree_state::Finished;
 
-/// The weakest of the edges above the routers up to this one, by that of those before it.
+/// The weakest of the edges above the routers up to this one, by the weakest of those before it.
 fn weaker(finished: &Finished, child: u32, before: Option<PathLeast>) -> Option<PathLeast>
     requires child { child < finished.now.net.routers }
     requires before { IsWeakestBelow finished.now child before }
