@@ -164,7 +164,7 @@ pub fn run<S: Source, K: Sink>(
         → NoBye (items_of false taken)
         → (Rose (K.write_faults sink.old) (K.write_faults sink.new) → ⊥) → result.status ≡ Status.TooLong }
 
-    // Where the source tells that it has fewer than 2^30 bytes left and nothing fails, all are answered, unless there
+    // Where the source tells that it has fewer than 2^30 bytes left and nothing fails, the run is done, unless there
     // was no memory to begin with.
     ensures completes { (bytes : List ℕ) → IsPlan (map string_bytes words.now) → S.left source.old ≡ Some bytes
         → length bytes < 2 ^ 30 → (Rose (S.read_faults source.old) (S.read_faults source.new) → ⊥)

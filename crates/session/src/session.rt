@@ -60,7 +60,7 @@ pub fn serve_session<H: Shelf, P: Peer>(
         (H.seen shelf.new) (H.own shelf.new) }
     ensures alone { H.alone shelf.new ≡ H.alone shelf.old }
 
-    // Where the peer tells that it has fewer than 2^30 bytes left, and never fails, all are answered.
+    // Where the peer tells that it has fewer than 2^30 bytes left, and doesn't fail, the session is done.
     ensures completes { (bytes : List ℕ) → P.left peer.old ≡ Some bytes → length bytes < 2 ^ 30
         → (Rose (P.read_faults peer.old) (P.read_faults peer.new) → ⊥)
         → (Rose (P.write_faults peer.old) (P.write_faults peer.new) → ⊥) → result ≡ SessionEnd.Done }
