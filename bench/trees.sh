@@ -14,7 +14,8 @@
 # round alone, less what a session without a round takes; what takes very long is stopped and left out.
 # Beside this stands the wall time of a whole process of one round. What is in C++ is compiled by g++
 # and by clang++, whichever are there, and the faster counts. The networks are made on the fly in a
-# temporary folder, and all output goes to /dev/null. It takes some minutes.
+# temporary folder, and all output goes to /dev/null. It takes some five minutes, and with networkx, which is
+# stopped on most networks, half an hour.
 #
 # Needs compilers for C and C++ beside what the program needs: the Debian packages gcc, g++ and
 # libc6-dev (others: coreutils, gawk or mawk; clang; liblemon-dev, libigraph-dev and python3-networkx
