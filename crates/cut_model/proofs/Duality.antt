@@ -17,9 +17,9 @@ abbrev pub HasEndsBelow : ℕ → Link → Type 0
 HasEndsBelow n link = (link.a < n) × (link.b < n)
 
 -- the ends of all links of a network are among its routers
-pub ends_within : (n : ℕ) (links : List Link) → IsInLimits n links → AllByRecursion (HasEndsBelow n) links
-ends_within n links limits =
-    recursion_from_All (HasEndsBelow n) links (λ k at_end small.
+pub ends_within : (net : Net) → IsInLimits net → AllByRecursion (HasEndsBelow net.routers) net.links
+ends_within net limits =
+    recursion_from_All (HasEndsBelow net.routers) net.links (λ k at_end small.
     ((limits.within k at_end small).a, (limits.within k at_end small).b))
 
 -- ---- one end of one link
@@ -182,16 +182,16 @@ total-flow net s t flow k small is Y hs ht =
     ∙ rw (lt-ltb s net.routers small) refl
 
 -- weak duality: a flow is at most the cost of each set that holds s and lacks t
-pub flow_le : (net : Net) → IsInLimits net.routers net.links → (s t : ℕ) (flow : List ℤ) (k : ℕ) → s < net.routers
+pub flow_le : (net : Net) → IsInLimits net → (s t : ℕ) (flow : List ℤ) (k : ℕ) → s < net.routers
     → IsFlow net s t flow k → (Y : RouterSet) → Y s ≡ true → Y t ≡ false → k ≤ cut_value net Y
 unfolding cut_value
 flow_le net limits s t flow k small is Y hs ht =
     let sent = total-flow net s t flow k small is Y hs ht in
-    let le = total-le Y net.routers net.links flow (ends_within net.routers net.links limits) is.within in
+    let le = total-le Y net.routers net.links flow (ends_within net limits) is.within in
     omega (arith, ints, sent, le)
 
 -- a set that a flow fills costs just the flow
-pub full_is : (net : Net) → IsInLimits net.routers net.links → (s t : ℕ) (flow : List ℤ) (k : ℕ) → s < net.routers
+pub full_is : (net : Net) → IsInLimits net → (s t : ℕ) (flow : List ℤ) (k : ℕ) → s < net.routers
     → IsFlow net s t flow k → (Y : RouterSet) → Y s ≡ true → Y t ≡ false → IsFull Y net.links flow → cut_value net Y ≡ k
 unfolding cut_value
 full_is net limits s t flow k small is Y hs ht full =
@@ -201,19 +201,19 @@ full_is net limits s t flow k small is Y hs ht full =
       ints,
       sent,
       total-full Y net.routers net.links flow
-          (ends_within net.routers net.links limits) is.within full,
+          (ends_within net limits) is.within full,
     )
 
 -- and a set that costs just the flow is filled by it
-pub full_if : (net : Net) → IsInLimits net.routers net.links → (s t : ℕ) (flow : List ℤ) (k : ℕ) → s < net.routers
+pub full_if : (net : Net) → IsInLimits net → (s t : ℕ) (flow : List ℤ) (k : ℕ) → s < net.routers
     → IsFlow net s t flow k → (Y : RouterSet) → Y s ≡ true → Y t ≡ false → cut_value net Y ≡ k → IsFull Y net.links flow
 unfolding cut_value
 full_if net limits s t flow k small is Y hs ht e =
-    full_from Y net.routers net.links flow (ends_within net.routers net.links limits) is.within
+    full_from Y net.routers net.links flow (ends_within net limits) is.within
     (total-flow net s t flow k small is Y hs ht ∙ ap pos (sym e))
 
 -- so a set that holds s and lacks t, and that a flow fills, is a least cut
-pub full_cut : (net : Net) → IsInLimits net.routers net.links → (s t : ℕ) (flow : List ℤ) (k : ℕ) → s < net.routers
+pub full_cut : (net : Net) → IsInLimits net → (s t : ℕ) (flow : List ℤ) (k : ℕ) → s < net.routers
     → IsFlow net s t flow k → (X : RouterSet) → X s ≡ true → X t ≡ false → IsFull X net.links flow
     → IsLeastCut net s t X k
 full_cut net limits s t flow k small is X hs ht full = record {

@@ -5,6 +5,7 @@ use Rattle.cut_model.specs.declared.network.Link.{Link}
 use Rattle.cut_model.specs.declared.network.NetFault.TheVariants.{NoRouter, TooManyRouters, EndOutside, CapTooLarge}
 use Rattle.cut_model.specs.Net.{Net, net_fault}
 use Rattle.cut_model.specs.Cuts.{cut_value, set_of}
+use Rattle.cut_model.specs.Lambda.{lambda}
 use Rattle.cut_model.specs.Flow.{out}
 
 -- a link by its ends and its capacity
@@ -25,6 +26,15 @@ six = record {
 side_of_one : cut_value six (set_of (false ∷ true ∷ false ∷ true ∷ true ∷ true ∷ [])) ≡ 6
 unfolding cut_value six joins
 side_of_one = refl
+
+-- the least cuts of routers 0 and 5, and of routers 1 and 4
+lambda_zero_five : lambda six 0 5 ≡ 6
+unfolding lambda cut_value six joins
+lambda_zero_five = refl
+
+lambda_one_four : lambda six 1 4 ≡ 7
+unfolding lambda cut_value six joins
+lambda_one_four = refl
 
 all_but_zero : cut_value six (set_of (false ∷ true ∷ true ∷ true ∷ true ∷ true ∷ [])) ≡ 8
 unfolding cut_value six joins

@@ -11,6 +11,7 @@ use Rattle.std.proofs.lemmas.List.Sums.{fails_before_first, position_or_len_is}
 use Rattle.cut_model.specs.declared.network.Link.{Link}
 use Rattle.cut_model.specs.declared.network.NetFault.{NetFault}
 use Rattle.cut_model.specs.declared.network.NetFault.TheVariants.{NoRouter, TooManyRouters, TooManyLinks}
+use Rattle.cut_model.specs.declared.network.TheConstants.{MOST_ROUTERS, MOST_LINKS}
 use Rattle.cut_model.specs.Net.{IsLink, IsInLimits, has_end_outside, has_large_cap, place_fault, links_fault, net_fault}
 
 -- the first place that passes is behind all elements where there is none
@@ -52,9 +53,9 @@ is_link routers link inside small = record {
 
 -- the limits hold where there is no fault
 pub in_limits_if_faultless : (routers : ℕ) (links : List Link) → net_fault routers links ≡ None
-    → IsInLimits routers links
+    → IsInLimits (record { routers = routers; links = links })
 in_limits_if_faultless routers links none =
-    let h = no_fault_at_all (routers == 0) (nat_lt 1024 routers) (nat_lt 8192 (length links))
+    let h = no_fault_at_all (routers == 0) (nat_lt MOST_ROUTERS routers) (nat_lt MOST_LINKS (length links))
     (links_fault routers links) none in
     let places = no_place (position (has_end_outside routers) links) (position has_large_cap links) h.3 in record {
       some = grind (arith, nat_tests, h.0);
@@ -81,12 +82,12 @@ no_first p (x ∷ xs) none =
     rw (e, le-ltb (length (x ∷ xs)) (length (x ∷ xs)) (omega arith)) refl
 
 -- and there is no fault where they hold
-pub faultless_if_in_limits : (routers : ℕ) (links : List Link) → IsInLimits routers links
-    → net_fault routers links ≡ None
+pub faultless_if_in_limits : (routers : ℕ) (links : List Link)
+    → IsInLimits (record { routers = routers; links = links }) → net_fault routers links ≡ None
 faultless_if_in_limits routers links limits =
     let some : (routers == 0) ≡ false = ne_eqb routers 0 (λ e. omega (arith, limits.some)) in
-    let few : nat_lt 1024 routers ≡ false = le-ltb 1024 routers limits.few_routers in
-    let room : nat_lt 8192 (length links) ≡ false = le-ltb 8192 (length links) limits.few_links in
+    let few : nat_lt MOST_ROUTERS routers ≡ false = le-ltb MOST_ROUTERS routers limits.few_routers in
+    let room : nat_lt MOST_LINKS (length links) ≡ false = le-ltb MOST_LINKS (length links) limits.few_links in
     let inside = no_first (has_end_outside routers) links
     (λ k d low. (link_is routers (get_or links k d) (limits.within k d low)).0) in
     let small = no_first has_large_cap links (λ k d low.

@@ -5,6 +5,8 @@ pub mod Closed
 pub mod Reached
 pub mod Faults
 pub mod Links
+pub mod Costs
+pub mod Lambdas
 pub mod Counting
 pub mod Terminals
 pub mod Examples

@@ -49,7 +49,7 @@ reached_held links flow s Y closed held r (on {u} {v} way leads) =
     closed u v (reached_held links flow s Y closed held u way) leads
 
 -- so a closed set of routers that s reaches is the least side
-pub reached_least : (net : Net) → IsInLimits net.routers net.links → (s t : ℕ) (flow : List ℤ) (k : ℕ)
+pub reached_least : (net : Net) → IsInLimits net → (s t : ℕ) (flow : List ℤ) (k : ℕ)
     → s < net.routers → IsFlow net s t flow k → (X : RouterSet) → X s ≡ true → X t ≡ false
     → IsClosed X net.links flow → ((r : ℕ) → r < net.routers → X r ≡ true → Reaches net.links flow s r)
     → IsLeastSide net s t X k

@@ -20,10 +20,10 @@ pub terminal_count-all : (net : Net) → terminal_count net ≡ net.routers
 terminal_count-all net = number_in-all (is_terminal net) net.routers (all_terminals net)
 
 -- the root is a router of the network
-pub root-lt : (net : Net) → IsInLimits net.routers net.links → root_of net < net.routers
+pub root-lt : (net : Net) → IsInLimits net → root_of net < net.routers
 unfolding root_of
 root-lt net limits = limits.some
 
 -- the root is a terminal
-pub root_terminal : (net : Net) → IsInLimits net.routers net.links → IsTerminal net (root_of net)
+pub root_terminal : (net : Net) → IsInLimits net → IsTerminal net (root_of net)
 root_terminal net limits = all_terminals net (root_of net) (root-lt net limits)

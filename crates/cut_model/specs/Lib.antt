@@ -3,6 +3,7 @@ pub mod Side
 pub mod Packing
 pub mod Cuts
 pub mod Crossing
+pub mod Lambda
 pub mod Terminals
 pub mod Held
 pub mod Flow

@@ -3,6 +3,7 @@ use Rattle.std.specs.Prelude.{ℕ, ◌<◌, ◌≤◌, Bool, ◌||◌, ◌==◌,
 use Rattle.std.specs.Prelude.{List, length, All, position, Some, None, if◌then◌else◌}
 use Rattle.std.specs.declared.option.Option.{Option}
 use Rattle.cut_model.specs.declared.network.Link.{Link}
+use Rattle.cut_model.specs.declared.network.TheConstants.{MOST_ROUTERS, MOST_LINKS, MOST_CAPACITY}
 use Rattle.cut_model.specs.declared.network.NetFault.{NetFault}
 use Rattle.cut_model.specs.declared.network.NetFault.TheVariants.{NoRouter, TooManyRouters, TooManyLinks}
 use Rattle.cut_model.specs.declared.network.NetFault.TheVariants.{EndOutside, CapTooLarge}
@@ -12,26 +13,27 @@ pub record Net : Type 0 where
   pub routers : ℕ
   pub links : List Link
 
--- A link joins two routers below the number, and its capacity is at most 10^12.
+-- A link joins two routers below the number, and its capacity is at most the greatest.
 pub record IsLink (routers : ℕ) (link : Link) : Type 0 where
   pub a : link.a < routers
   pub b : link.b < routers
-  pub cap : link.cap ≤ 1000000000000
+  pub cap : link.cap ≤ MOST_CAPACITY
 
--- A network has 1 to 1,024 routers and at most 8,192 links, each of which is one among its routers.
-pub record IsInLimits (routers : ℕ) (links : List Link) : Type 0 where
-  pub some : 0 < routers
-  pub few_routers : routers ≤ 1024
-  pub few_links : length links ≤ 8192
-  pub within : All (IsLink routers) links
+-- A network is within the limits: it has a router and not too many, and not too many links, each of which is one among
+-- its routers.
+pub record IsInLimits (net : Net) : Type 0 where
+  pub some : 0 < net.routers
+  pub few_routers : net.routers ≤ MOST_ROUTERS
+  pub few_links : length net.links ≤ MOST_LINKS
+  pub within : All (IsLink net.routers) net.links
 
 -- An end of the link is no router below the number.
 abbrev pub has_end_outside : ℕ → Link → Bool
 has_end_outside routers link = nat_le routers link.a || nat_le routers link.b
 
--- The capacity of the link is above 10^12.
+-- The capacity of the link is above the greatest.
 abbrev pub has_large_cap : Link → Bool
-has_large_cap link = nat_lt 1000000000000 link.cap
+has_large_cap link = nat_lt MOST_CAPACITY link.cap
 
 -- The fault of the first link that reaches outside, or else of the first too large one, by their places.
 abbrev pub place_fault : Option ℕ → Option ℕ → Option NetFault
@@ -47,6 +49,6 @@ links_fault routers links = place_fault (position (has_end_outside routers) link
 abbrev pub net_fault : ℕ → List Link → Option NetFault
 net_fault routers links =
     if routers == 0 then Some NoRouter else
-    if nat_lt 1024 routers then Some TooManyRouters else
-    if nat_lt 8192 (length links) then Some TooManyLinks else
+    if nat_lt MOST_ROUTERS routers then Some TooManyRouters else
+    if nat_lt MOST_LINKS (length links) then Some TooManyLinks else
     links_fault routers links

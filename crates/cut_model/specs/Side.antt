@@ -4,6 +4,7 @@ use Rattle.std.specs.Prelude.{false, ◌==◌, List, map, take, drop, length, sl
 use Rattle.std.specs.Int.{bit_at}
 use Rattle.std.specs.List.{range_with_len}
 use lib.Lanes.{mask_l}
+use Rattle.cut_model.specs.declared.network.TheConstants.{MOST_ROUTERS}
 
 -- the truth value of a router: a bit of the words
 abbrev pub bit_of : List ℕ → ℕ → Bool
@@ -21,9 +22,9 @@ word_of bits i = mask_l (take 64 (drop (64 * i) bits))
 unfoldable pub words_of : List Bool → List ℕ
 words_of bits = map (word_of bits) (range_with_len 0 16)
 
--- sixteen words hold at most 1024 truth values, and no bit beyond them is set
+-- sixteen words hold a truth value for each router that a network may have, and no bit beyond them is set
 pub record IsHeld (words : List ℕ) (n : ℕ) : Type 0 where
-  pub limit : n ≤ 1024
+  pub limit : n ≤ MOST_ROUTERS
   pub sixteen : length words ≡ 16
   pub fit : (i : ℕ) → slice_index words i < 2 ^ 64
   pub rest : (r : ℕ) → n ≤ r → bit_of words r ≡ false

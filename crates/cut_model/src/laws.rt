@@ -3,6 +3,7 @@ ghost use Rattle.cut_model.specs.Crossing.{MeetAndJoinCostNoMore, DifferencesCos
 ghost use Rattle.cut_model.specs.Crossing.{ComplementCostsAsMuch, LeastCutsCostTheSame};
 ghost use Rattle.cut_model.specs.Crossing.{LeastCutTurnsOver, LeastCutJoinsFreely};
 ghost use Rattle.cut_model.specs.Crossing.{LeastCutLeavesFreely};
+ghost use Rattle.cut_model.specs.Lambda.{LambdaIsTheLeastValue, LambdaIsTheSameBothWays, ValuesAreBounded};
 ghost use Rattle.cut_model.specs.Laws.{FlowIsAtMost, FullSideIsLeast, ReachedSideIsLeast};
 
 /// No side that holds s and lacks t costs less than a flow from s to t. (Ford and Fulkerson, 1956.)
@@ -46,4 +47,16 @@ pub fn least_cuts_of_two_routers()
 pub fn sides_go_round_least_cuts()
     ensures joined { LeastCutJoinsFreely }
     ensures left { LeastCutLeavesFreely }
+{}
+
+/// Two routers that differ have a least cut, all their least cuts cost the one value `lambda`, and it is
+/// the same for the two turned.
+pub fn lambda_is_one_value()
+    ensures value { LambdaIsTheLeastValue }
+    ensures turned { LambdaIsTheSameBothWays }
+{}
+
+/// No side costs more than [`MOST_VALUE`](crate::MOST_VALUE).
+pub fn values_are_bounded()
+    ensures { ValuesAreBounded }
 {}

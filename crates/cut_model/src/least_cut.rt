@@ -1,7 +1,8 @@
 //! Least cuts together with the network that they cut.
-ghost use Rattle.std.specs.Prelude.{◌≡◌, ◌<◌, length};
+ghost use Rattle.std.specs.Prelude.{◌≡◌, ◌<◌, ◌≤◌, length};
 ghost use Rattle.cut_model.specs.Cuts.{set_of, IsLeastCut};
 ghost use Rattle.cut_model.specs.Held.{IsHeldCut};
+ghost use Rattle.cut_model.specs.declared.network.TheConstants.{MOST_VALUE};
 
 use crate::network::Network;
 use crate::side::Side;
@@ -62,6 +63,8 @@ impl<'a> LeastCut<'a> {
           value = value;
         } }
     {
+        let routers = net.routers();
+        prove!(router < routers && neighbour < routers);
         LeastCut {
             net,
             router,
@@ -103,9 +106,10 @@ impl<'a> LeastCut<'a> {
         &self.side
     }
 
-    /// What the cut costs, at most 8,192 times 10^12.
+    /// What the cut costs, at most [`MOST_VALUE`](crate::MOST_VALUE).
     pub fn value(&self) -> u64
         ensures value { result ≡ self.now.value }
+        ensures most { result ≤ MOST_VALUE }
         ensures cut { IsHeldCut self.now }
     {
         self.value

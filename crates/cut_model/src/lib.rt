@@ -15,7 +15,7 @@ mod steps;
 mod tests;
 
 pub use least_cut::LeastCut;
-pub use network::{Link, NetFault, Network};
+pub use network::{Link, MOST_CAPACITY, MOST_LINKS, MOST_ROUTERS, MOST_VALUE, NetFault, Network};
 pub use no_memory::NoMemory;
 pub use side::Side;
 pub use steps::Steps;

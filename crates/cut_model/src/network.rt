@@ -2,6 +2,7 @@
 ghost use Rattle.std.specs.Prelude.{◌≡◌, ℕ, ◌<◌, ◌≤◌, ◌↔◌, All, IfErr, IfOk};
 ghost use Rattle.std.specs.Prelude.{IfSome, OnOk, IsTrue, Some, None, length, position};
 ghost use Rattle.cut_model.specs.Net.{IsInLimits, IsLink, has_end_outside, has_large_cap, net_fault};
+ghost use Rattle.cut_model.specs.declared.network.TheConstants.{MOST_ROUTERS, MOST_LINKS};
 ghost use Rattle.cut_model.specs.Terminals.{is_terminal, IsTerminal, terminal_count, root_of};
 
 use std::marker::Model;
@@ -15,6 +16,9 @@ pub const MOST_LINKS: usize = 8192;
 
 /// The greatest capacity of a link.
 pub const MOST_CAPACITY: u64 = 1_000_000_000_000;
+
+/// The greatest value of a cut: that of all links that a network may have, each of the greatest capacity.
+pub const MOST_VALUE: u64 = 8_192_000_000_000_000;
 
 /// A link between two routers, which carries up to `cap` units in either direction. A link may join
 /// a router to itself, and several links may join the same two routers.
@@ -60,7 +64,7 @@ impl Model for Network {
 
     ghost view = { λ n. record { routers = n.routers; links = n.links.items } };
 
-    ghost invariant = { λ n. IsInLimits n.routers n.links.items };
+    ghost invariant = { λ n. IsInLimits (record { routers = n.routers; links = n.links.items }) };
 }
 
 /// The place of the first link with an end that is no router.
@@ -121,8 +125,8 @@ impl Network {
     pub fn routers(&self) -> u32
         ensures value { result ≡ self.now.routers }
         ensures some { 0 < result }
-        ensures most { result ≤ 1024 }
-        ensures limits { IsInLimits self.now.routers self.now.links }
+        ensures most { result ≤ MOST_ROUTERS }
+        ensures limits { IsInLimits self.now }
     {
         self.routers
     }
@@ -131,9 +135,9 @@ impl Network {
     #[inline]
     pub fn links(&self) -> &[Link]
         ensures value { result.now ≡ self.now.links }
-        ensures most { length result.now ≤ 8192 }
+        ensures most { length result.now ≤ MOST_LINKS }
         ensures within { All (IsLink self.now.routers) result.now }
-        ensures limits { IsInLimits self.now.routers self.now.links }
+        ensures limits { IsInLimits self.now }
     {
         self.links.as_slice()
     }
@@ -145,6 +149,7 @@ impl Network {
     {
         self.routers == other.routers && self.links == other.links
     }
+
     /// Whether a router is a terminal: one between which and others cuts may be asked for. Every
     /// router is.
     #[inline]

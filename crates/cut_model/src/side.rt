@@ -3,6 +3,7 @@ ghost use Rattle.std.specs.Prelude.{◌≡◌, ◌+◌, ◌*◌, ◌<◌, ◌≤
 ghost use Rattle.std.specs.Prelude.{length, replicate, slice_index_or, slice_set, IsTrue};
 ghost use Rattle.std.specs.List.{count_by};
 ghost use Rattle.cut_model.specs.Side.{HasBits};
+ghost use Rattle.cut_model.specs.declared.network.TheConstants.{MOST_ROUTERS};
 
 use std::marker::Model;
 
@@ -36,7 +37,7 @@ impl Model for Side {
 impl Side {
     /// The side of that size that holds no router.
     pub fn empty(size: u32) -> Side
-        requires { size ≤ 1024 }
+        requires { size ≤ MOST_ROUTERS }
         ensures { result ≡ replicate size false }
     {
         Side {
@@ -49,7 +50,7 @@ impl Side {
     #[inline]
     pub fn size(&self) -> u32
         ensures size { result ≡ length self.now }
-        ensures few { length self.now ≤ 1024 }
+        ensures few { length self.now ≤ MOST_ROUTERS }
     {
         self.size
     }

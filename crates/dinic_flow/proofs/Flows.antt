@@ -8,31 +8,19 @@ use Rattle.cut_model.specs.declared.network.Link.{Link}
 use Rattle.cut_model.specs.Net.{Net, IsLink, IsInLimits}
 use Rattle.cut_model.specs.Cuts.{RouterSet, differ, across, cut_value}
 use Rattle.cut_model.specs.Flow.{out, IsWithinCaps, IsFlow}
+use Rattle.cut_model.proofs.Costs.{cut_value-most}
 use Rattle.cut_model.proofs.Duality.{flow_le}
-
--- A link adds at most the greatest capacity to the cost of a set.
-across-le : (X : RouterSet) (routers : ℕ) (link : Link) → IsLink routers link → across X link ≤ 1000000000000
-across-le X routers link is = elim (cases_Bool (differ (X link.a) (X link.b))) [
-  | inl e ↦ rw e is.cap
-  | inr e ↦ rw e (omega arith)
-]
-
--- A set of routers costs at most the greatest capacity for each link.
-cut_value-le : (net : Net) (X : RouterSet) → IsInLimits net.routers net.links →
-    cut_value net X ≤ length net.links * 1000000000000
-unfolding cut_value
-cut_value-le net X limits = sum_by-le (across X) 1000000000000 net.links
-    (λ k d short. across-le X net.routers _ (limits.within k d short))
+use Rattle.cut_model.specs.declared.network.TheConstants.{MOST_VALUE}
 
 -- The value of a flow is at most what all links together can carry.
-pub flow-small : (net : Net) (s t : ℕ) (flow : List ℤ) (k : ℕ) → IsInLimits net.routers net.links →
-    s < net.routers → IsFlow net s t flow k → k ≤ 8192000000000000
+pub flow-small : (net : Net) (s t : ℕ) (flow : List ℤ) (k : ℕ) → IsInLimits net →
+    s < net.routers → IsFlow net s t flow k → k ≤ MOST_VALUE
 flow-small net s t flow k limits small is =
     let alone : RouterSet = λ r. r == s in
     let below : k ≤ cut_value net alone =
     flow_le net limits s t flow k small is alone
     (eq-eqb s s refl) (ne_eqb t s (λ e. is.differ_ends (sym e))) in
-    omega (arith, below, cut_value-le net alone limits, limits.few_links)
+    omega (arith, below, cut_value-most net limits alone)
 
 -- No flow sends nothing.
 nothing-sent : (from to : Bool) → ((cond from (pos 0) (pos 0) -ℤ cond to (pos 0) (pos 0)) +ℤ pos 0) ≡ pos 0

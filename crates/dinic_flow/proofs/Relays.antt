@@ -354,7 +354,7 @@ over-blocked before between after old new label arc least t left most limit amou
 -- The arcs that a router has passed stay blocked, whatever is sent.
 pub passed-later : (before after : ResidualView) (old new label : List ℕ) (least router t x from to : ℕ) →
     Sends before after old new label router t x → IsPhase after least t label new →
-    IsInLimits before.net.routers before.net.links → router < before.net.routers →
+    IsInLimits before.net → router < before.net.routers →
     begin_of before.net router ≤ from → to ≤ begin_of before.net (router + 1) →
     ((at : ℕ) → from ≤ at → at < to → IsBlocked before least t label old (place_at before.net at).arc) →
     (at : ℕ) → from ≤ at → at < to → IsBlocked after least t label new (place_at after.net at).arc

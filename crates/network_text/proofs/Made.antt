@@ -17,7 +17,7 @@ some-element (suc count) empty h filled = omega arith
 
 -- Names and links within the limits are a network, if there is a name.
 pub limits-whole : (names : List (List ℕ)) (links : List Link) → IsWithinLimits names links → 0 < length names
-    → IsInLimits (length names) links
+    → IsInLimits (record { routers = length names; links = links })
 limits-whole names links small some = record {
   some = some;
   few_routers = small.few_names;

@@ -19,4 +19,4 @@ pub record IsSheet (names : List (List ℕ)) (net : Net) : Type 0 where
   pub distinct : AllPairs (λ name other. name ≢ other) names
   pub named : All (λ name. IsTrue (is_name name)) names
   pub numbered : length names ≡ net.routers
-  pub limits : IsInLimits net.routers net.links
+  pub limits : IsInLimits net

@@ -14,7 +14,7 @@ use Rattle.query_lang.specs.Reports.{IsCutReport, IsWeakestReport}
 
 -- The least edge of a path, with a side that shows what it cuts off for the first router, is a reply to CUT.
 pub cut_report : (version : ℕ) (sheet : SheetView) (tree : GrowingView) (a b child width : ℕ) (side : List Bool)
-    → IsInLimits tree.net.routers tree.net.links → a < tree.net.routers → b < tree.net.routers
+    → IsInLimits tree.net → a < tree.net.routers → b < tree.net.routers
     → IsLeastEdge tree.net (up_of tree) (width_of tree) a b child → width ≡ width_of tree child
     → IsLeastCut tree.net a b (side_for tree.net.routers (up_of tree) a child) width
     → ShowsSet tree.net.routers (side_for tree.net.routers (up_of tree) a child) side
@@ -32,7 +32,7 @@ cut_report version sheet tree a b child width side limits a_low b_low edge is le
 
 -- The weakest edge, with a side that shows what is below it, is a reply to WEAKEST.
 pub weakest_report : (version : ℕ) (sheet : SheetView) (tree : GrowingView) (child width : ℕ) (side : List Bool)
-    → IsInLimits tree.net.routers tree.net.links
+    → IsInLimits tree.net
     → IsWeakest tree.net (root_of tree.net) (width_of tree) child → width ≡ width_of tree child
     → IsGlobalCut tree.net (below tree.net.routers (up_of tree) child) width
     → ShowsSet tree.net.routers (below tree.net.routers (up_of tree) child) side

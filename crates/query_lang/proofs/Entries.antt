@@ -36,7 +36,7 @@ unfolding IsLegalAfter
 no_entry net = tt
 
 -- Each entry of a complete history has two routers of the network.
-pub entry_within : (net : Net) → IsInLimits net.routers net.links → (history : List Entry) → IsComplete net history
+pub entry_within : (net : Net) → IsInLimits net → (history : List Entry) → IsComplete net history
     → (place : ℕ) (entry : Entry) → slice_get history place ≡ Some entry → IsWithin net entry
 entry_within net limits history complete place entry is =
     let all = entries_after net (root-lt net limits) [] history (no_entry net) complete.legal in

@@ -123,7 +123,7 @@ chain_finished tree net history =
     rw (net, history) (finished chain (last ∷ middle ∷ []) (all_terminals chain 0 (omega arith)) chain_complete)
 
 -- One router alone has no commit to wait for.
-lone_complete : (net : Net) → IsInLimits net.routers net.links → net.routers ≡ 1 → IsComplete net []
+lone_complete : (net : Net) → IsInLimits net → net.routers ≡ 1 → IsComplete net []
 lone_complete net limits one = record {
   legal = no_entry net;
   all = λ router terminal not_root. absurd (not_root (omega (
@@ -135,7 +135,7 @@ lone_complete net limits one = record {
 }
 
 -- So its tree is finished at once.
-pub lone_finished : (tree : GrowingView) → IsInLimits tree.net.routers tree.net.links → tree.net.routers ≡ 1
+pub lone_finished : (tree : GrowingView) → IsInLimits tree.net → tree.net.routers ≡ 1
     → tree.history ≡ [] → IsFinished tree
 lone_finished tree limits one none =
     rw none (finished tree.net [] (root_terminal tree.net limits) (lone_complete tree.net limits one))

@@ -24,7 +24,7 @@ unfolding arcs_from
 no_arcs router = refl
 
 -- and is within the limits
-limits_of_lone : IsInLimits 1 []
+limits_of_lone : IsInLimits lone
 limits_of_lone = record {
   some = omega arith;
   few_routers = omega arith;

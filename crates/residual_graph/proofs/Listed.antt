@@ -99,7 +99,7 @@ unfolding head_in
 head-odd net arc odd = rw (ne_eqb (arc % 2) 0 odd) refl
 
 -- an arc goes to one of the network's routers
-pub head_below : (net : Net) → IsInLimits net.routers net.links → (arc : ℕ) → arc < arc_count net
+pub head_below : (net : Net) → IsInLimits net → (arc : ℕ) → arc < arc_count net
     → head_of net arc < net.routers
 unfolding head_in
 head_below net limits arc low =
@@ -107,7 +107,7 @@ head_below net limits arc low =
     elim (cases_eq (arc % 2) 0) [ inl even ↦ rw even link.b | inr odd ↦ rw (ne_eqb (arc % 2) 0 odd) link.a ]
 
 -- and leaves one
-pub tail_below : (net : Net) → IsInLimits net.routers net.links → (arc : ℕ) → arc < arc_count net
+pub tail_below : (net : Net) → IsInLimits net → (arc : ℕ) → arc < arc_count net
     → tail_of net arc < net.routers
 unfolding tail_in
 tail_below net limits arc low =
@@ -126,7 +126,7 @@ pub get_or-places_from : (net : Net) (router k : ℕ) → k < length (arcs_from 
 get_or-places_from net router k within = get_or-map (place_of net) (arcs_from net router) k 0 no_place within
 
 -- each is of an arc that leaves the router
-pub each_place : (net : Net) → IsInLimits net.routers net.links → (router : ℕ)
+pub each_place : (net : Net) → IsInLimits net → (router : ℕ)
     → All (IsPlaceOf net router) (places_from net router)
 each_place net limits router = All-from_get_or (IsPlaceOf net router) (places_from net router) no_place (λ k within.
     let inside : k < length (arcs_from net router) = omega (arith, length-places_from net router) in

@@ -22,7 +22,7 @@ pub record IsOf (routers links : ℕ) (first : List ℕ) (places : List Place) (
   pub routers_are : routers ≡ view.net.routers
   pub links_are : take links kept ≡ view.net.links
   pub count_is : links ≡ length view.net.links
-  pub limits : IsInLimits view.net.routers view.net.links
+  pub limits : IsInLimits view.net
   pub group : (router : ℕ) → router < view.net.routers → IsGroup view.net first places router
   pub first_fits : view.net.routers < length first
   pub places_fit : arc_count view.net ≤ length places
@@ -52,7 +52,7 @@ is_of {room_routers} {room_links} {routers} {links} {first} {places} {kept} {lef
       routers_are = same;
       links_are = ap (λ (n : Net). n.links) net;
       count_is = count;
-      limits = subst (λ (n : Net). IsInLimits n.routers n.links) net stored.limits;
+      limits = subst IsInLimits net stored.limits;
       group = λ router low.
           subst (λ (n : Net). IsGroup n first places router) net (stored.indexed router (omega (arith, same, low)));
       first_fits = omega (arith, same, stored.first_room, stored.routers_fit);
@@ -121,7 +121,7 @@ kept_is {links = links} {kept = kept} of i low =
     ∙ ap (λ (ls : List Link). get_or ls i no_link) of.links_are
 
 -- its capacity is within the limit
-pub cap_small : (net : Net) → IsInLimits net.routers net.links → (i : ℕ) → i < length net.links
+pub cap_small : (net : Net) → IsInLimits net → (i : ℕ) → i < length net.links
     → (get_or net.links i no_link).cap ≤ 1000000000000
 cap_small net limits i low = (limits.within i no_link low).cap
 

@@ -141,7 +141,7 @@ pub record IsFresh (room_routers room_links routers links : ℕ) (first : List �
   pub kept_room : length kept ≡ room_links
   pub left_room : length left ≡ 2 * room_links
   pub links_are : take links kept ≡ net.links
-  pub limits : IsInLimits net.routers net.links
+  pub limits : IsInLimits net
   pub indexed : IsIndexed net first places
   pub caps : HasCaps net.links left
   pub cleared : touched.links ≡ []

@@ -47,7 +47,7 @@ pub record IsStored (room_routers room_links routers links : ℕ) (first : List 
   pub places_room : length places ≡ 2 * room_links
   pub kept_room : length kept ≡ room_links
   pub left_room : length left ≡ 2 * room_links
-  pub limits : IsInLimits routers (take links kept)
+  pub limits : IsInLimits (record { routers = routers; links = take links kept })
   pub pairs : ArePairs (take links kept) left
   pub indexed : IsIndexed (record { routers = routers; links = take links kept }) first places
   pub touched_inside : All (λ i. i < links) touched.links

@@ -18,7 +18,7 @@ pub record IsSound (view : ResidualView) : Type 0 where
   pub links : length view.net.links ≤ view.room_links
   pub room_routers : view.room_routers ≤ 1024
   pub room_links : view.room_links ≤ 8192
-  pub limits : IsInLimits view.net.routers view.net.links
+  pub limits : IsInLimits view.net
   pub within : IsWithinCaps view.net.links view.flow
 
 -- The flow of a link by any of its two arcs, positive from the link's end a to its end b.

@@ -36,7 +36,7 @@ entered_terminal net history legal = by_entries net (λ h. (r : ℕ) → entered
     (none_entered net) (one_more net) history legal
 
 -- a complete history has an entry for each terminal but the root
-pub length-complete : (net : Net) → IsInLimits net.routers net.links → (history : List Entry) → IsComplete net history
+pub length-complete : (net : Net) → IsInLimits net → (history : List Entry) → IsComplete net history
     → suc (length history) ≡ terminal_count net
 length-complete net limits history complete = sym (
     number_in-same (is_terminal net) (with_number (root_of net) (entered history)) net.routers

@@ -47,14 +47,14 @@ may_follow net history cut held same terminal not_root fresh neighbour = record 
 
 -- what is above a router is one of the network
 pub above-lt : {net : Net} {up width : List ℕ} {done : List Bool} {history : List Entry}
-    → IsGrown net up width done history → IsInLimits net.routers net.links → (i : ℕ) → i < net.routers
+    → IsGrown net up width done history → IsInLimits net → (i : ℕ) → i < net.routers
     → slice_index up i < net.routers
 above-lt {net = net} {history = history} g limits i low =
     rw (g.up_is i low) ((bounded net (root-lt net limits) history g.legal).ups i)
 
 -- there are fewer entries than routers
 pub entries-lt : {net : Net} {up width : List ℕ} {done : List Bool} {history : List Entry}
-    → IsGrown net up width done history → IsInLimits net.routers net.links → length history < net.routers
+    → IsGrown net up width done history → IsInLimits net → length history < net.routers
 entries-lt {net = net} {history = history} g limits = length-lt net (root-lt net limits) history g.legal
 
 -- a commit at two places of a table reads the table there alone
@@ -95,7 +95,7 @@ done_push done history entry n i len low same (inr other) =
 
 -- a commit keeps a tree grown
 pub grown_push : (net : Net) (up width next_up next_width : List ℕ) (done : List Bool) (history : List Entry)
-    (entry : Entry) → IsInLimits net.routers net.links → IsGrown net up width done history
+    (entry : Entry) → IsInLimits net → IsGrown net up width done history
     → MayFollow net history entry → IsCommitted net up width next_up next_width entry
     → IsGrown net next_up next_width (set done entry.router true) (history ++ entry ∷ [])
 grown_push net up width next_up next_width done history entry limits g may after = record {

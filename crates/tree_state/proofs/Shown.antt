@@ -6,29 +6,13 @@ use Rattle.std.proofs.lemmas.List.Sums.{sum_by-cons}
 use Rattle.cut_model.specs.declared.network.Link.{Link}
 use Rattle.cut_model.specs.Net.{Net, IsInLimits}
 use Rattle.cut_model.specs.Cuts.{RouterSet, set_of, across, cut_value, IsLeastCut}
-use Rattle.cut_model.proofs.Duality.{HasEndsBelow, ends_within}
+use Rattle.cut_model.proofs.Costs.{cut_value-same}
 use Rattle.cut_model.proofs.Terminals.{terminal-lt}
 use Rattle.tree_state.specs.Paths.{IsGlobalCut}
 use Rattle.tree_state.specs.Shown.{ShowsSet}
 
--- two sets with the same routers below n lie alike across links among these
-sum_across-same : (n : ℕ) (X Y : RouterSet) → ((r : ℕ) → r < n → X r ≡ Y r) → (links : List Link)
-    → AllByRecursion (HasEndsBelow n) links → sum_by (across X) links ≡ sum_by (across Y) links
-sum_across-same n X Y same [] within = refl
-sum_across-same n X Y same (link ∷ links) within =
-    sum_by-cons (across X) link links
-    ∙ rw (same link.a within.0.0, same link.b within.0.1, sum_across-same n X Y same links within.1)
-    (sym (sum_by-cons (across Y) link links))
-
--- so sets with the same routers of a network cost the same
-pub cut_value-same : (net : Net) → IsInLimits net.routers net.links → (X Y : RouterSet)
-    → ((r : ℕ) → r < net.routers → X r ≡ Y r) → cut_value net X ≡ cut_value net Y
-unfolding cut_value
-cut_value-same net limits X Y same =
-    sum_across-same net.routers X Y same net.links (ends_within net.routers net.links limits)
-
 -- a side that shows a least cut is one
-pub shown_least_cut : (net : Net) → IsInLimits net.routers net.links → (X : RouterSet) (side : List Bool)
+pub shown_least_cut : (net : Net) → IsInLimits net → (X : RouterSet) (side : List Bool)
     → ShowsSet net.routers X side → (a b k : ℕ) → a < net.routers → b < net.routers → IsLeastCut net a b X k
     → IsLeastCut net a b (set_of side) k
 shown_least_cut net limits X side shown a b k a_low b_low cut = record {
@@ -39,7 +23,7 @@ shown_least_cut net limits X side shown a b k a_low b_low cut = record {
 }
 
 -- a side that shows a cut of the whole network that no other undercuts is one
-pub shown_global_cut : (net : Net) → IsInLimits net.routers net.links → (X : RouterSet) (side : List Bool)
+pub shown_global_cut : (net : Net) → IsInLimits net → (X : RouterSet) (side : List Bool)
     → ShowsSet net.routers X side → (k : ℕ) → IsGlobalCut net X k → IsGlobalCut net (set_of side) k
 shown_global_cut net limits X side shown k cut = record {
   parting = record {

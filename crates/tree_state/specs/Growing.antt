@@ -36,7 +36,7 @@ pub record IsGrown (net : Net) (up width : List ℕ) (done : List Bool) (history
 
 -- There is room for the largest network, and the network is within the limits.
 pub record HasRoom (net : Net) (up width history : ℕ) : Type 0 where
-  pub limits : IsInLimits net.routers net.links
+  pub limits : IsInLimits net
   pub up_room : 1024 ≤ up
   pub width_room : 1024 ≤ width
   pub history_room : 1024 ≤ history

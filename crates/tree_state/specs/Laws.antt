@@ -14,13 +14,13 @@ use Rattle.tree_state.specs.Paths.{IsLeastEdge, side_for, IsWeakest, IsGlobalCut
 -- router.
 abbrev pub LegalHistoryBuildsHalf : Type 0
 LegalHistoryBuildsHalf =
-    (net : Net) → IsInLimits net.routers net.links → (history : List Entry) → IsLegal net history →
+    (net : Net) → IsInLimits net → (history : List Entry) → IsLegal net history →
     IsHalfBuiltTree net (tables (root_of net) history).up (tables (root_of net) history).width (entered history)
 
 -- The tables of a complete history are a cut tree.
 abbrev pub CompleteHistoryIsCutTree : Type 0
 CompleteHistoryIsCutTree =
-    (net : Net) → IsInLimits net.routers net.links → (history : List Entry) → IsComplete net history →
+    (net : Net) → IsInLimits net → (history : List Entry) → IsComplete net history →
     IsCutTree net (root_of net) (tables (root_of net) history).up (tables (root_of net) history).width
 
 -- In a cut tree, two terminals that differ have a least edge on their path.

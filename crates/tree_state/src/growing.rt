@@ -119,7 +119,7 @@ impl Growing {
     pub fn commits(&self) -> u32
         ensures value { result ≡ length self.now.history }
         ensures few { result < self.now.net.routers }
-        ensures limits { IsInLimits self.now.net.routers self.now.net.links }
+        ensures limits { IsInLimits self.now.net }
     {
         self.history.len() as u32
     }

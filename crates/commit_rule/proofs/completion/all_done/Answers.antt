@@ -17,8 +17,8 @@ returns-clause-done c =
 
 pub returns-clause-tree : goal.returns-clause-tree
 returns-clause-tree c =
-    let limits : IsInLimits c.args.grow.now.net.routers c.args.grow.now.net.links =
-    subst (λ (net : Net). IsInLimits net.routers net.links) (c.deref.ensures ∙ c.net.ensures.value)
+    let limits : IsInLimits c.args.grow.now.net =
+    subst IsInLimits (c.deref.ensures ∙ c.net.ensures.value)
     c.routers-router-end.ensures.limits in
     λ done. complete_cut_tree c.args.grow.now.net (root_terminal c.args.grow.now.net limits) c.args.grow.now.history
     (returns-clause-done c done)

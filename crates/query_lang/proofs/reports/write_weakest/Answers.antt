@@ -8,7 +8,7 @@ pub returns : goal.returns
 returns g c =
     let sheet = c.args.sheet.now in
     let tree = c.args.finished.now in
-    let limits = subst (λ (n : Net). IsInLimits n.routers n.links) (sym c.requires.same) c.net.ensures.sheet.limits in
+    let limits = subst IsInLimits (sym c.requires.same) c.net.ensures.sheet.limits in
     let least = c.in-Some.least in
     let side = c.side_below-side.result in
     record {

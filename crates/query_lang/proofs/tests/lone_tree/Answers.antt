@@ -12,6 +12,6 @@ hold-requires c =
     ap (λ (g : GrowingView). g.net) c.in_ok-grow.ensures ∙ clone in
     let history : c.in_ok-grow.grow.history ≡ [] = ap (λ (g : GrowingView). g.history) c.in_ok-grow.ensures in
     let limits =
-    subst (λ (n : Net). IsInLimits n.routers n.links) (c.deref.ensures ∙ sym net) c.routers.ensures.limits in
+    subst IsInLimits (c.deref.ensures ∙ sym net) c.routers.ensures.limits in
     let finished = lone_finished c.in_ok-grow.grow limits (ap (λ (n : Net). n.routers) net ∙ c.requires) history in
     record { complete = finished.complete; tree = finished.cut_tree }

@@ -7,7 +7,7 @@ pub returns : goal.returns
 returns c =
     let tree = c.args.finished.now in
     let sheet = c.net-2.ensures.sheet in
-    let limits = subst (λ (net : Net). IsInLimits net.routers net.links) (sym c.requires.same) sheet.limits in
+    let limits = subst IsInLimits (sym c.requires.same) sheet.limits in
     let entry = c.entry.result.now in
     let within = entry_within tree.net limits tree.history c.net.ensures.complete c.args.place entry c.entry.ensures in
     let routers = ap (λ (net : Net). net.routers) c.requires.same in

@@ -21,7 +21,7 @@ invariant_of-result c =
       )
           (grown_start (arc_value c.args.net)),
       record {
-        limits = subst (λ (net : Net). IsInLimits net.routers net.links) c.deref.ensures
+        limits = subst IsInLimits c.deref.ensures
             c.routers-routers.ensures.limits;
         up_room = c.in_ok-table.ensures.room;
         width_room = c.in_ok-table-2.ensures.room;
