@@ -1,7 +1,7 @@
 //! When a tree is complete.
 ghost use Rattle.std.specs.Prelude.{◌≡◌, ◌<◌, ◌&&◌, ◌==◌, not, IfErr, IfOk, IsFalse, IsTrue, OnErr, OnOk};
 ghost use Rattle.cut_model.specs.Terminals.{is_terminal, root_of};
-ghost use Rattle.tree_state.specs.Growing.{HoldsCutTree};
+ghost use Rattle.tree_state.specs.Views.{HoldsCutTree};
 ghost use Rattle.tree_state.specs.History.{entered, IsComplete, SomeOpen};
 
 use tree_state::{Finished, Growing};
@@ -36,7 +36,7 @@ fn all_done(grow: &Growing) -> bool
 pub fn complete(grow: Growing) -> Result<Finished, Growing>
     ensures complete { OnOk result (IsComplete grow.net grow.history) }
     ensures tree { OnOk result (HoldsCutTree grow) }
-    ensures finished { IfOk result (λ f. f ≡ grow) }
+    ensures finished { IfOk result (λ f. f.tree ≡ grow) }
     ensures open { OnErr result (SomeOpen grow.net grow.history) }
     ensures back { IfErr result (λ g. g ≡ grow) }
 {

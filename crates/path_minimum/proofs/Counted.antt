@@ -8,7 +8,7 @@ use Rattle.cut_model.specs.Terminals.{IsTerminal, is_terminal, number_in, termin
 use Rattle.cut_model.proofs.Counting.{with_number, with_number-same, with_number-other, number_in-none, number_in-new}
 use Rattle.cut_model.proofs.Counting.{number_in-same}
 use Rattle.cut_model.proofs.Terminals.{terminal-lt}
-use Rattle.tree_state.specs.Growing.{GrowingView, up_of, width_of, HoldsCutTree}
+use Rattle.tree_state.specs.Views.{TreeView, up_of, width_of, HoldsCutTree}
 use Rattle.tree_state.specs.Paths.{IsWeakest, IsGlobalCut}
 use Rattle.tree_state.specs.Tables.{below}
 use Rattle.tree_state.proofs.WeakestEdges.{weakest_edge_cut}
@@ -57,7 +57,7 @@ number_in-two X r s n r_low s_low apart r_in s_in = omega (
 -- ---- the weakest edge of all
 
 -- no edge is found where there is one terminal alone, and only there
-pub weakest-none : (tree : GrowingView) → HoldsCutTree tree → (end : ℕ) (least : Option PathLeast)
+pub weakest-none : (tree : TreeView) → HoldsCutTree tree → (end : ℕ) (least : Option PathLeast)
     → tree.net.routers ≤ end → IsWeakestBelow tree end least
     → (IsNone least → terminal_count tree.net ≡ 1) × (terminal_count tree.net ≡ 1 → IsNone least)
 weakest-none tree holds end None all only = (
@@ -77,7 +77,7 @@ weakest-none tree holds end (Some edge) all weakest = (
 )
 
 -- the weakest edge above all routers is that of the tree
-weakest-is : (tree : GrowingView) (end : ℕ) (edge : PathLeast) → tree.net.routers ≤ end → IsWeakestOf tree end edge
+weakest-is : (tree : TreeView) (end : ℕ) (edge : PathLeast) → tree.net.routers ≤ end → IsWeakestOf tree end edge
     → IsWeakest tree.net (root_of tree.net) (width_of tree) edge.child
 weakest-is tree end edge all weakest = record {
   terminal = weakest.terminal;
@@ -92,20 +92,20 @@ weakest-is tree end edge all weakest = record {
         (weakest.least e (omega (arith, terminal-lt tree.net e e_is)) e_is other)
 
 -- if there is one
-pub weakest-edge : (tree : GrowingView) (end : ℕ) (least : Option PathLeast) → tree.net.routers ≤ end
+pub weakest-edge : (tree : TreeView) (end : ℕ) (least : Option PathLeast) → tree.net.routers ≤ end
     → IsWeakestBelow tree end least
     → IfSome least (λ edge. IsWeakest tree.net (root_of tree.net) (width_of tree) edge.child)
 weakest-edge tree end None all only = tt
 weakest-edge tree end (Some edge) all weakest = weakest-is tree end edge all weakest
 
 -- it is an edge above a router of the network
-pub weakest-within : (tree : GrowingView) (end : ℕ) (least : Option PathLeast) → IsWeakestBelow tree end least
+pub weakest-within : (tree : TreeView) (end : ℕ) (least : Option PathLeast) → IsWeakestBelow tree end least
     → IfSome least (λ edge. edge.child < tree.net.routers)
 weakest-within tree end None only = tt
 weakest-within tree end (Some edge) weakest = terminal-lt tree.net edge.child weakest.terminal
 
 -- and what is below it is a least cut of the whole network
-pub weakest-cut : (tree : GrowingView) → HoldsCutTree tree → (end : ℕ) (least : Option PathLeast)
+pub weakest-cut : (tree : TreeView) → HoldsCutTree tree → (end : ℕ) (least : Option PathLeast)
     → tree.net.routers ≤ end → IsWeakestBelow tree end least
     → IfSome least (λ edge. IsGlobalCut tree.net (below tree.net.routers (up_of tree) edge.child) edge.width)
 weakest-cut tree holds end None all only = tt

@@ -10,7 +10,7 @@ use Rattle.cut_model.proofs.Counting.{with_number, number_in-none, number_in-lt,
 use Rattle.cut_model.proofs.Crossing.{same_sets}
 use Rattle.cut_model.proofs.Terminals.{terminal-lt}
 use Rattle.tree_state.specs.Tables.{Table, below}
-use Rattle.tree_state.specs.Growing.{GrowingView, up_of, HoldsCutTree}
+use Rattle.tree_state.specs.Views.{TreeView, up_of, HoldsCutTree}
 use Rattle.tree_state.proofs.Forest.{some_up-suc}
 use Rattle.tree_state.proofs.Trees.{Tree, tree_of, tree-longer, tree_below-root, tree_below_is, tree_below-up}
 use Rattle.path_minimum.specs.Ladders.{depth_in, depth_of}
@@ -129,25 +129,25 @@ counted net t = record t {
 }
 
 -- The tree of a view that holds a cut tree.
-abbrev pub tree_in : (tree : GrowingView) → HoldsCutTree tree → Tree tree.net
+abbrev pub tree_in : (tree : TreeView) → HoldsCutTree tree → Tree tree.net
 tree_in tree holds = counted tree.net (tree_of tree.net (root_of tree.net) (up_of tree) _ holds)
 
 -- the router above one of the network is a terminal
-pub up_terminal : (tree : GrowingView) → HoldsCutTree tree → (i : ℕ) → i < tree.net.routers
+pub up_terminal : (tree : TreeView) → HoldsCutTree tree → (i : ℕ) → i < tree.net.routers
     → IsTerminal tree.net (up_of tree i)
 up_terminal tree holds i low = holds.up_is i low
 
 -- each router of the network but the root is one deeper than the router above it
-pub depth_of-suc : (tree : GrowingView) → HoldsCutTree tree → (i : ℕ) → i < tree.net.routers → i ≢ root_of tree.net
+pub depth_of-suc : (tree : TreeView) → HoldsCutTree tree → (i : ℕ) → i < tree.net.routers → i ≢ root_of tree.net
     → depth_of tree i ≡ suc (depth_of tree (up_of tree i))
 depth_of-suc tree holds i low not_root =
     depth_in-suc tree.net (tree_of tree.net (root_of tree.net) (up_of tree) _ holds) i low not_root
     (up_terminal tree holds i low)
 
 -- the root has depth 0
-pub depth_of-root : (tree : GrowingView) → HoldsCutTree tree → depth_of tree (root_of tree.net) ≡ 0
+pub depth_of-root : (tree : TreeView) → HoldsCutTree tree → depth_of tree (root_of tree.net) ≡ 0
 depth_of-root tree holds = depth_in-root tree.net (tree_of tree.net (root_of tree.net) (up_of tree) _ holds)
 
 -- no depth is as large as the number of routers
-pub depth_of-lt : (tree : GrowingView) → HoldsCutTree tree → (i : ℕ) → depth_of tree i < tree.net.routers
+pub depth_of-lt : (tree : TreeView) → HoldsCutTree tree → (i : ℕ) → depth_of tree i < tree.net.routers
 depth_of-lt tree holds i = depth_in-lt tree.net (tree_of tree.net (root_of tree.net) (up_of tree) _ holds) i

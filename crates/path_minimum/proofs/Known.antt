@@ -7,14 +7,14 @@ use Rattle.std.proofs.lemmas.List.{length-set, get_or-set_same, get_or-set_other
 use Rattle.std.proofs.lemmas.Bool.{cases_eq, false≢true}
 use Rattle.cut_model.specs.Cuts.{set_of}
 use Rattle.cut_model.specs.Terminals.{root_of}
-use Rattle.tree_state.specs.Growing.{GrowingView, up_of, HoldsCutTree}
+use Rattle.tree_state.specs.Views.{TreeView, up_of, HoldsCutTree}
 use Rattle.tree_state.proofs.Decided.{put_in, put_stays}
 use Rattle.path_minimum.specs.Ladders.{depth_of}
 use Rattle.path_minimum.specs.Walks.{AreKnown}
 use Rattle.path_minimum.proofs.Depths.{depth_of-root, depth_of-suc}
 
 -- one more router is known, with its depth
-pub known-more : (tree : GrowingView) (known : List Bool) (depths : List ℕ) (at depth : ℕ) → at < tree.net.routers
+pub known-more : (tree : TreeView) (known : List Bool) (depths : List ℕ) (at depth : ℕ) → at < tree.net.routers
     → depth ≡ depth_of tree at → AreKnown tree known depths
     → AreKnown tree (set known at true) (set depths at depth)
 known-more tree known depths at depth low is before = record {
@@ -32,7 +32,7 @@ known-more tree known depths at depth low is before = record {
 }
 
 -- at first the root alone is known
-pub known-root : (tree : GrowingView) (depths : List ℕ) → HoldsCutTree tree → root_of tree.net < tree.net.routers
+pub known-root : (tree : TreeView) (depths : List ℕ) → HoldsCutTree tree → root_of tree.net < tree.net.routers
     → length depths ≡ tree.net.routers
     → AreKnown tree (set (replicate tree.net.routers false) (root_of tree.net) true) (set depths (root_of tree.net) 0)
 known-root tree depths holds low places = record {
@@ -55,7 +55,7 @@ known-root tree depths holds low places = record {
     none = replicate tree.net.routers false
 
 -- a router that isn't known is one deeper than the router above it, as the root is known
-pub depth-unknown : (tree : GrowingView) (known : List Bool) (depths : List ℕ) (at : ℕ) → HoldsCutTree tree
+pub depth-unknown : (tree : TreeView) (known : List Bool) (depths : List ℕ) (at : ℕ) → HoldsCutTree tree
     → AreKnown tree known depths → at < tree.net.routers → set_of known at ≡ false
     → depth_of tree at ≡ suc (depth_of tree (up_of tree at))
 depth-unknown tree known depths at holds before low unknown =

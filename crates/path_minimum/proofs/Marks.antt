@@ -8,7 +8,7 @@ use Rattle.std.proofs.lemmas.List.{length-set, get_or-set_same, get_or-set_other
 use Rattle.cut_model.specs.Cuts.{set_of}
 use Rattle.cut_model.specs.Terminals.{IsTerminal, root_of}
 use Rattle.cut_model.proofs.Terminals.{terminal-lt}
-use Rattle.tree_state.specs.Growing.{GrowingView, up_of, HoldsCutTree}
+use Rattle.tree_state.specs.Views.{TreeView, up_of, HoldsCutTree}
 use Rattle.tree_state.specs.Shown.{ShowsSet}
 use Rattle.tree_state.specs.Tables.{below}
 use Rattle.tree_state.proofs.Trees.{Tree, tree_below_is, tree_below-root}
@@ -17,11 +17,11 @@ use Rattle.path_minimum.proofs.Depths.{tree_in}
 use Rattle.path_minimum.proofs.Ways.{below-through}
 
 -- The routers of a network that are below c in a tree.
-abbrev pub below_in : GrowingView → ℕ → ℕ → Bool
+abbrev pub below_in : TreeView → ℕ → ℕ → Bool
 below_in tree c i = below tree.net.routers (up_of tree) c i
 
 -- a router that isn't the root is marked, and the walk goes on above it
-pub marked-more : (tree : GrowingView) → HoldsCutTree tree → (marks : List Bool) (router at : ℕ)
+pub marked-more : (tree : TreeView) → HoldsCutTree tree → (marks : List Bool) (router at : ℕ)
     → IsTerminal tree.net at → length marks ≡ tree.net.routers → (c : ℕ) → c ≢ root_of tree.net
     → below_in tree c router ≡ (set_of marks c || below_in tree c at)
     → below_in tree c router ≡ (set_of (set marks at true) c || below_in tree c (up_of tree at))
@@ -40,7 +40,7 @@ marked-more tree holds marks router at at_is size c not_root before = elim (case
     step = tree_below_is tree.net (tree_in tree holds) c at not_root at_is
 
 -- where the walk has come to the root, that is marked, and the marks are those of the whole way
-pub marked-all : (tree : GrowingView) → HoldsCutTree tree → (marks : List Bool) (router : ℕ)
+pub marked-all : (tree : TreeView) → HoldsCutTree tree → (marks : List Bool) (router : ℕ)
     → IsTerminal tree.net router → length marks ≡ tree.net.routers
     → ((c : ℕ) → c < tree.net.routers → c ≢ root_of tree.net
     → below_in tree c router ≡ (set_of marks c || below_in tree c (root_of tree.net)))
@@ -64,7 +64,7 @@ marked-all tree holds marks router router_is size before = record {
     root = root_of tree.net
 
 -- a router that hasn't the first terminal below it is passed over
-pub shared-more : (tree : GrowingView) → HoldsCutTree tree → (a at : ℕ) → IsTerminal tree.net a
+pub shared-more : (tree : TreeView) → HoldsCutTree tree → (a at : ℕ) → IsTerminal tree.net a
     → IsTerminal tree.net at → below_in tree at a ≡ false → (c : ℕ)
     → (below_in tree c a && below_in tree c at) ≡ (below_in tree c a && below_in tree c (up_of tree at))
 shared-more tree holds a at a_is at_is lacks c = elim (cases_eq c (root_of tree.net)) [
@@ -82,7 +82,7 @@ shared-more tree holds a at a_is at_is lacks c = elim (cases_eq c (root_of tree.
     t = tree_in tree holds
 
 -- the first router that has it below it is where the two ways meet
-pub shared-all : (tree : GrowingView) → HoldsCutTree tree → (a b at : ℕ) → IsTerminal tree.net a
+pub shared-all : (tree : TreeView) → HoldsCutTree tree → (a b at : ℕ) → IsTerminal tree.net a
     → IsTerminal tree.net at → below_in tree at a ≡ true
     → ((c : ℕ) → (below_in tree c a && below_in tree c b) ≡ (below_in tree c a && below_in tree c at))
     → IsMeeting tree.net (up_of tree) a b at

@@ -12,7 +12,7 @@ use Rattle.std.proofs.lemmas.Map.Views.{Contains-from_any}
 use Rattle.cut_model.specs.Net.{Net}
 use Rattle.cut_model.specs.Terminals.{IsTerminal}
 use Rattle.cut_model.proofs.Terminals.{terminal-lt}
-use Rattle.tree_state.specs.Growing.{GrowingView, up_of, HoldsCutTree}
+use Rattle.tree_state.specs.Views.{TreeView, up_of, HoldsCutTree}
 use Rattle.tree_state.proofs.Trees.{Tree}
 use Rattle.path_minimum.specs.Ladders.{depth_of}
 use Rattle.path_minimum.specs.Paths.{size_below, IsOnPathAbove, IsOrderedPath}
@@ -78,7 +78,7 @@ ordered net t ups a b m a_is b_is meeting = record {
     }
 
 -- in a cut tree
-pub path-ordered : (tree : GrowingView) → HoldsCutTree tree → (a b m : ℕ) → IsTerminal tree.net a
+pub path-ordered : (tree : TreeView) → HoldsCutTree tree → (a b m : ℕ) → IsTerminal tree.net a
     → IsTerminal tree.net b → IsMeeting tree.net (up_of tree) a b m
     → IsOrderedPath tree.net (up_of tree) a b (way_between tree a m ++ reverse (way_between tree b m))
 unfolding way_between way
@@ -88,12 +88,12 @@ path-ordered tree holds a b m a_is b_is meeting =
 -- ---- how long it is, and what is on it
 
 -- the two ways are shorter together than there are routers
-pub ways-short : (tree : GrowingView) → HoldsCutTree tree → (a b m : ℕ) → IsMeeting tree.net (up_of tree) a b m
+pub ways-short : (tree : TreeView) → HoldsCutTree tree → (a b m : ℕ) → IsMeeting tree.net (up_of tree) a b m
     → depth_of tree a + depth_of tree b < tree.net.routers + depth_of tree m
 ways-short tree holds a b m meeting = meeting-short tree.net (tree_in tree holds) a b m meeting
 
 -- so is the path
-pub length-path : (tree : GrowingView) → HoldsCutTree tree → (a b m : ℕ) → IsMeeting tree.net (up_of tree) a b m
+pub length-path : (tree : TreeView) → HoldsCutTree tree → (a b m : ℕ) → IsMeeting tree.net (up_of tree) a b m
     → length (way_between tree a m ++ reverse (way_between tree b m)) < tree.net.routers
 length-path tree holds a b m meeting = omega (
   arith,

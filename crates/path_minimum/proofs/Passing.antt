@@ -4,7 +4,7 @@ use Rattle.std.proofs.Common.{sym, ◌∙◌, ap, subst, arith, refl}
 use Rattle.std.proofs.lemmas.Bool.{cases_eq}
 use Rattle.cut_model.specs.Terminals.{IsTerminal}
 use Rattle.cut_model.proofs.Terminals.{terminal-lt}
-use Rattle.tree_state.specs.Growing.{GrowingView, up_of, width_of, HoldsCutTree}
+use Rattle.tree_state.specs.Views.{TreeView, up_of, width_of, HoldsCutTree}
 use Rattle.tree_state.specs.Paths.{IsOnPath, IsLeastEdge}
 use Rattle.tree_state.proofs.Trees.{Tree}
 use Rattle.path_minimum.specs.declared.least_edge.PathLeast.{PathLeast}
@@ -15,7 +15,7 @@ use Rattle.path_minimum.proofs.PathSteps.{on_path-none, on_path-turned, on_path-
 use Rattle.path_minimum.proofs.PathSteps.{low-not_root}
 
 -- What is left of the path of a and b is the path of x and y, and the least edge comes first of what was passed.
-pub record HasPassed (tree : GrowingView) (a b x y : ℕ) (least : PathLeast) : Type 0 where
+pub record HasPassed (tree : TreeView) (a b x y : ℕ) (least : PathLeast) : Type 0 where
   pub x_is : IsTerminal tree.net x
   pub y_is : IsTerminal tree.net y
   pub edge : least ≡ edge_of tree least.child
@@ -39,7 +39,7 @@ first-first one other third p q = record {
 }
 
 -- at first nothing was passed, and the deeper one of the two is on their path
-pub passed-none : (tree : GrowingView) → HoldsCutTree tree → (a b : ℕ) → IsTerminal tree.net a
+pub passed-none : (tree : TreeView) → HoldsCutTree tree → (a b : ℕ) → IsTerminal tree.net a
     → IsTerminal tree.net b → (c : ℕ) → IsOnPath tree.net (up_of tree) a b c → HasPassed tree a b a b (edge_of tree c)
 passed-none tree holds a b a_is b_is c on_path = record {
   x_is = a_is;
@@ -51,7 +51,7 @@ passed-none tree holds a b a_is b_is c on_path = record {
 }
 
 -- the two that are left may change places
-pub passed-turned : (tree : GrowingView) → HoldsCutTree tree → (a b x y : ℕ) (least : PathLeast)
+pub passed-turned : (tree : TreeView) → HoldsCutTree tree → (a b x y : ℕ) (least : PathLeast)
     → HasPassed tree a b x y least → HasPassed tree a b y x least
 passed-turned tree holds a b x y least before = record {
   x_is = before.y_is;
@@ -66,7 +66,7 @@ passed-turned tree holds a b x y least before = record {
 }
 
 -- one step up from the deeper one passes its edge
-pub passed-up : (tree : GrowingView) (holds : HoldsCutTree tree) (a b x y : ℕ) (least next : PathLeast)
+pub passed-up : (tree : TreeView) (holds : HoldsCutTree tree) (a b x y : ℕ) (least next : PathLeast)
     → HasPassed tree a b x y least → x ≢ y → depth_of tree y ≤ depth_of tree x
     → (next ≡ least) ⊎ (next ≡ edge_of tree x) → ComesFirst next least → ComesFirst next (edge_of tree x)
     → HasPassed tree a b (up_of tree x) y next
@@ -123,7 +123,7 @@ either-sum depth pair x y (inl e) = rw e refl
 either-sum depth pair x y (inr e) = rw e (omega arith)
 
 -- what was passed was passed in either order
-pub either-passed : (tree : GrowingView) → HoldsCutTree tree → (a b x y : ℕ) (least : PathLeast) (pair : ℕ × ℕ)
+pub either-passed : (tree : TreeView) → HoldsCutTree tree → (a b x y : ℕ) (least : PathLeast) (pair : ℕ × ℕ)
     → HasPassed tree a b x y least → IsEither pair x y → HasPassed tree a b pair.0 pair.1 least
 either-passed tree holds a b x y least pair before (inl e) =
     subst (λ (p : ℕ × ℕ). HasPassed tree a b p.0 p.1 least) (sym e) before
@@ -131,7 +131,7 @@ either-passed tree holds a b x y least pair before (inr e) =
     subst (λ (p : ℕ × ℕ). HasPassed tree a b p.0 p.1 least) (sym e) (passed-turned tree holds a b x y least before)
 
 -- their order on a ladder is that of their depths
-pub ladder-order : (tree : GrowingView) (ladder : List ℕ) → IsLadderOf tree ladder → (x y : ℕ)
+pub ladder-order : (tree : TreeView) (ladder : List ℕ) → IsLadderOf tree ladder → (x y : ℕ)
     → IsTerminal tree.net x → IsTerminal tree.net y → slice_index ladder y ≤ slice_index ladder x
     → depth_of tree y ≤ depth_of tree x
 ladder-order tree ladder is x y x_is y_is le = omega (
@@ -141,7 +141,7 @@ ladder-order tree ladder is x y x_is y_is le = omega (
 )
 
 -- the first of two, where it is the deeper one, is on their path
-pub either-on_path : (tree : GrowingView) → HoldsCutTree tree → (a b : ℕ) (pair : ℕ × ℕ) → IsTerminal tree.net a
+pub either-on_path : (tree : TreeView) → HoldsCutTree tree → (a b : ℕ) (pair : ℕ × ℕ) → IsTerminal tree.net a
     → IsTerminal tree.net b → a ≢ b → IsEither pair a b → depth_of tree pair.1 ≤ depth_of tree pair.0
     → IsOnPath tree.net (up_of tree) a b pair.0
 either-on_path tree holds a b pair a_is b_is apart (inl e) low =
@@ -155,7 +155,7 @@ either-on_path tree holds a b pair a_is b_is apart (inr e) low =
     (subst (λ (p : ℕ × ℕ). depth_of tree p.1 ≤ depth_of tree p.0) e low) (λ q. apart (sym q))))
 
 -- a step up from the deeper one makes the sum of their depths smaller
-pub passed-smaller : (tree : GrowingView) → HoldsCutTree tree → (a b x y : ℕ) (least : PathLeast)
+pub passed-smaller : (tree : TreeView) → HoldsCutTree tree → (a b x y : ℕ) (least : PathLeast)
     → HasPassed tree a b x y least → x ≢ y → depth_of tree y ≤ depth_of tree x
     → depth_of tree (up_of tree x) + depth_of tree y < depth_of tree x + depth_of tree y
 passed-smaller tree holds a b x y least before apart low =
@@ -167,7 +167,7 @@ passed-smaller tree holds a b x y least before apart low =
 -- ---- all the way
 
 -- where the two meet, all of the path was passed
-pub passed-all : (tree : GrowingView) → HoldsCutTree tree → (a b x y : ℕ) (least : PathLeast)
+pub passed-all : (tree : TreeView) → HoldsCutTree tree → (a b x y : ℕ) (least : PathLeast)
     → HasPassed tree a b x y least → x ≡ y → IsLeastEdge tree.net (up_of tree) (width_of tree) a b least.child
 passed-all tree holds a b x y least done meet = record {
   on_path = done.on_path;

@@ -8,7 +8,7 @@ use Rattle.cut_model.specs.Net.{Net}
 use Rattle.cut_model.specs.Cuts.{RouterSet, differ}
 use Rattle.cut_model.specs.Terminals.{IsTerminal}
 use Rattle.tree_state.specs.Tables.{Table, way_up, below}
-use Rattle.tree_state.specs.Growing.{GrowingView, up_of, HoldsCutTree}
+use Rattle.tree_state.specs.Views.{TreeView, up_of, HoldsCutTree}
 use Rattle.tree_state.proofs.Trees.{Tree, tree_below, tree_below_is, tree_below-self, tree_below-high, tree_below-root}
 use Rattle.path_minimum.specs.Ladders.{depth_of}
 use Rattle.path_minimum.specs.Paths.{IsOnPathAbove}
@@ -239,7 +239,7 @@ on_path-way net t a b m c a_is meeting on_path =
 -- ---- the ways of a view that holds a cut tree
 
 -- from a terminal that isn't the end, the way begins there, and goes on from the router above
-pub way_between-suc : (tree : GrowingView) → HoldsCutTree tree → (from to : ℕ) → IsTerminal tree.net from
+pub way_between-suc : (tree : TreeView) → HoldsCutTree tree → (from to : ℕ) → IsTerminal tree.net from
     → below tree.net.routers (up_of tree) to from ≡ true → from ≢ to
     → way_between tree from to ≡ from ∷ way_between tree (up_of tree from) to
 unfolding way_between way
@@ -247,12 +247,12 @@ way_between-suc tree holds from to from_is inside apart =
     way-suc tree.net (tree_in tree holds) from to from_is inside apart
 
 -- there is none from a router to itself
-pub way_between-none : (tree : GrowingView) (to : ℕ) → way_between tree to to ≡ []
+pub way_between-none : (tree : TreeView) (to : ℕ) → way_between tree to to ≡ []
 unfolding way_between
 way_between-none tree to = let e : depth_of tree to - depth_of tree to ≡ 0 = omega arith in rw e refl
 
 -- a way is as long as its beginning is deeper than its end
-pub length-way_between : (tree : GrowingView) (from to : ℕ)
+pub length-way_between : (tree : TreeView) (from to : ℕ)
     → length (way_between tree from to) ≡ depth_of tree from - depth_of tree to
 unfolding way_between
 length-way_between tree from to = length-way_up (up_of tree) (depth_of tree from - depth_of tree to) from

@@ -5,19 +5,19 @@ use Rattle.cut_model.specs.Net.{Net}
 use Rattle.cut_model.specs.Cuts.{set_of}
 use Rattle.cut_model.specs.Terminals.{IsTerminal, root_of}
 use Rattle.tree_state.specs.Tables.{Table, way_up, below}
-use Rattle.tree_state.specs.Growing.{GrowingView, up_of, width_of}
+use Rattle.tree_state.specs.Views.{TreeView, up_of, width_of}
 use Rattle.path_minimum.specs.declared.least_edge.PathLeast.{PathLeast}
 use Rattle.path_minimum.specs.Ladders.{depth_of}
 
 -- The root is known, and of each known router the list has the depth.
-pub record AreKnown (tree : GrowingView) (known : List Bool) (depths : List ℕ) : Type 0 where
+pub record AreKnown (tree : TreeView) (known : List Bool) (depths : List ℕ) : Type 0 where
   pub marks : length known ≡ tree.net.routers
   pub places : length depths ≡ tree.net.routers
   pub root : set_of known (root_of tree.net) ≡ true
   pub depth_is : (c : ℕ) → c < tree.net.routers → set_of known c ≡ true → slice_index depths c ≡ depth_of tree c
 
 -- The edge above a router.
-abbrev pub edge_of : GrowingView → ℕ → PathLeast
+abbrev pub edge_of : TreeView → ℕ → PathLeast
 edge_of tree c = record { child = c; width = width_of tree c }
 
 -- The one edge is no wider than the other, and where both are as wide, its lower end has no larger number.
@@ -31,11 +31,11 @@ pub record IsMeeting (net : Net) (up : Table) (a b m : ℕ) : Type 0 where
   pub shared : (c : ℕ) → below net.routers up c m ≡ (below net.routers up c a && below net.routers up c b)
 
 -- The routers of the way from one router up to another, without the last.
-unfoldable pub way_between : GrowingView → ℕ → ℕ → List ℕ
+unfoldable pub way_between : TreeView → ℕ → ℕ → List ℕ
 way_between tree from to = way_up (up_of tree) (depth_of tree from - depth_of tree to) from
 
 -- An edge is the weakest of those above the terminals below `end`, but for the root.
-pub record IsWeakestOf (tree : GrowingView) (end : ℕ) (edge : PathLeast) : Type 0 where
+pub record IsWeakestOf (tree : TreeView) (end : ℕ) (edge : PathLeast) : Type 0 where
   pub edge_is : edge ≡ edge_of tree edge.child
   pub terminal : IsTerminal tree.net edge.child
   pub not_root : edge.child ≢ root_of tree.net
@@ -43,6 +43,6 @@ pub record IsWeakestOf (tree : GrowingView) (end : ℕ) (edge : PathLeast) : Typ
       (c : ℕ) → c < end → IsTerminal tree.net c → c ≢ root_of tree.net → ComesFirst edge (edge_of tree c)
 
 -- The weakest of the edges above the terminals below `end`, but for the root; none where there is none.
-abbrev pub IsWeakestBelow : GrowingView → ℕ → Option PathLeast → Type 0
+abbrev pub IsWeakestBelow : TreeView → ℕ → Option PathLeast → Type 0
 IsWeakestBelow tree end None = (c : ℕ) → c < end → IsTerminal tree.net c → c ≡ root_of tree.net
 IsWeakestBelow tree end (Some edge) = IsWeakestOf tree end edge

@@ -1,7 +1,7 @@
 //! How deep each router lies.
 ghost use Rattle.std.specs.Prelude.{◌≡◌, ℕ, ◌<◌, ◌≤◌, true, length, slice_index, IfOk};
 ghost use Rattle.cut_model.specs.Cuts.{set_of};
-ghost use Rattle.tree_state.specs.Growing.{HoldsCutTree};
+ghost use Rattle.tree_state.specs.Views.{HoldsCutTree};
 ghost use Rattle.path_minimum.specs.Ladders.{depth_of, IsLadderOf};
 ghost use Rattle.path_minimum.specs.Walks.{AreKnown};
 
@@ -32,7 +32,7 @@ impl Ladder {
     /// # Errors
     /// [`NoMemory`] where the memory of the depths can't be had, 4 bytes for each router.
     pub fn make(alloc: Global, finished: &Finished) -> Result<Ladder, NoMemory>
-        ensures { IfOk result (λ ladder. IsLadderOf finished.now ladder) }
+        ensures { IfOk result (λ ladder. IsLadderOf finished.now.tree ladder) }
     {
         let routers = finished.net().routers() as usize;
         let mut depths = vec![in alloc; 0; routers]?;
@@ -52,8 +52,8 @@ impl Ladder {
 
 /// Notes the depth of each router.
 fn note_depths(finished: &Finished, depths: &mut [u32])
-    requires { length depths.old ≡ finished.now.net.routers }
-    ensures { IsLadderOf finished.now depths.new }
+    requires { length depths.old ≡ finished.now.tree.net.routers }
+    ensures { IsLadderOf finished.now.tree depths.new }
 {
     let root = finished.root();
     let routers = finished.net().routers();
@@ -68,11 +68,11 @@ fn note_depths(finished: &Finished, depths: &mut [u32])
 
 /// The depth of a router, by that of the first known router of its way up.
 fn depth_by_known(finished: &Finished, router: u32, known: &Side, depths: &[u32]) -> u32
-    requires tree { HoldsCutTree finished.now }
-    requires few { finished.now.net.routers ≤ 1024 }
-    requires router { router < finished.now.net.routers }
-    requires known { AreKnown finished.now known.now depths.now }
-    ensures { result ≡ depth_of finished.now router }
+    requires tree { HoldsCutTree finished.now.tree }
+    requires few { finished.now.tree.net.routers ≤ 1024 }
+    requires router { router < finished.now.tree.net.routers }
+    requires known { AreKnown finished.now.tree known.now depths.now }
+    ensures { result ≡ depth_of finished.now.tree router }
 {
     let mut at = router;
     let mut steps = 0;
@@ -85,11 +85,11 @@ fn depth_by_known(finished: &Finished, router: u32, known: &Side, depths: &[u32]
 
 /// Notes the depths of the routers of a way up as far as they weren't known.
 fn note_way(finished: &Finished, router: u32, depth: u32, known: &mut Side, depths: &mut [u32])
-    requires tree { HoldsCutTree finished.now }
-    requires router { router < finished.now.net.routers }
-    requires depth { depth ≡ depth_of finished.now router }
-    requires known { AreKnown finished.now known.old depths.old }
-    ensures known { AreKnown finished.now known.new depths.new }
+    requires tree { HoldsCutTree finished.now.tree }
+    requires router { router < finished.now.tree.net.routers }
+    requires depth { depth ≡ depth_of finished.now.tree router }
+    requires known { AreKnown finished.now.tree known.old depths.old }
+    ensures known { AreKnown finished.now.tree known.new depths.new }
     ensures noted { set_of known.new router ≡ true }
     ensures kept { (c : ℕ) → set_of known.old c ≡ true → set_of known.new c ≡ true }
 {

@@ -2,7 +2,7 @@
 ghost use Rattle.std.specs.Prelude.{◌≡◌, ◌≢◌, ◌⊎◌, ◌<◌, ◌≤◌, length, slice_index};
 ghost use Rattle.cut_model.specs.Cuts.{IsLeastCut};
 ghost use Rattle.cut_model.specs.Terminals.{IsTerminal};
-ghost use Rattle.tree_state.specs.Growing.{up_of, width_of};
+ghost use Rattle.tree_state.specs.Views.{up_of, width_of};
 ghost use Rattle.tree_state.specs.Paths.{IsLeastEdge, side_for};
 ghost use Rattle.path_minimum.specs.Ladders.{IsLadderOf};
 ghost use Rattle.path_minimum.specs.Walks.{edge_of, ComesFirst};
@@ -25,8 +25,8 @@ pub struct PathLeast {
 /// The edge above a router.
 #[inline]
 pub(crate) fn edge_above(finished: &Finished, child: u32) -> PathLeast
-    requires { child < finished.now.net.routers }
-    ensures { result ≡ edge_of finished.now child }
+    requires { child < finished.now.tree.net.routers }
+    ensures { result ≡ edge_of finished.now.tree child }
 {
     PathLeast {
         child,
@@ -79,15 +79,15 @@ pub fn least_on_path<L: Ledger>(
     b: u32,
     steps: &mut Steps<L>,
 ) -> PathLeast
-    requires ladder { IsLadderOf finished.now ladder.now }
-    requires a { IsTerminal finished.now.net a }
-    requires b { IsTerminal finished.now.net b }
+    requires ladder { IsLadderOf finished.now.tree ladder.now }
+    requires a { IsTerminal finished.now.tree.net a }
+    requires b { IsTerminal finished.now.tree.net b }
     requires differ { a ≢ b }
-    ensures edge { IsLeastEdge finished.now.net (up_of finished.now) (width_of finished.now) a b result.child }
-    ensures width { result.width ≡ width_of finished.now result.child }
-    ensures least { IsLeastCut finished.now.net a b
-        (side_for finished.now.net.routers (up_of finished.now) a result.child) result.width }
-    ensures within { result.child < finished.now.net.routers }
+    ensures edge { IsLeastEdge finished.now.tree.net (up_of finished.now.tree) (width_of finished.now.tree) a b result.child }
+    ensures width { result.width ≡ width_of finished.now.tree result.child }
+    ensures least { IsLeastCut finished.now.tree.net a b
+        (side_for finished.now.tree.net.routers (up_of finished.now.tree) a result.child) result.width }
+    ensures within { result.child < finished.now.tree.net.routers }
     ensures steps { steps.new ≡ steps.old }
 {
     // (called for what it ensures: the tree is a cut tree)
@@ -117,15 +117,15 @@ fn least_on_path_from<L: Ledger>(
     requires name { blank.name ≡ L.name }
     requires parts { blank.parts ≡ L.parts }
     requires some { 0 < L.parts }
-    requires ladder { IsLadderOf finished.now ladder.now }
-    requires a { IsTerminal finished.now.net a }
-    requires b { IsTerminal finished.now.net b }
+    requires ladder { IsLadderOf finished.now.tree ladder.now }
+    requires a { IsTerminal finished.now.tree.net a }
+    requires b { IsTerminal finished.now.tree.net b }
     requires differ { a ≢ b }
-    ensures edge { IsLeastEdge finished.now.net (up_of finished.now) (width_of finished.now) a b result.child }
-    ensures width { result.width ≡ width_of finished.now result.child }
-    ensures least { IsLeastCut finished.now.net a b
-        (side_for finished.now.net.routers (up_of finished.now) a result.child) result.width }
-    ensures within { result.child < finished.now.net.routers }
+    ensures edge { IsLeastEdge finished.now.tree.net (up_of finished.now.tree) (width_of finished.now.tree) a b result.child }
+    ensures width { result.width ≡ width_of finished.now.tree result.child }
+    ensures least { IsLeastCut finished.now.tree.net a b
+        (side_for finished.now.tree.net.routers (up_of finished.now.tree) a result.child) result.width }
+    ensures within { result.child < finished.now.tree.net.routers }
 {
     let mut steps = Steps::<L>::zero(blank);
     least_on_path(ladder, finished, a, b, &mut steps)
@@ -133,15 +133,15 @@ fn least_on_path_from<L: Ledger>(
 
 /// As `least_on_path`, for a caller that counts no steps.
 pub fn least_on_path_uncounted(ladder: &Ladder, finished: &Finished, a: u32, b: u32) -> PathLeast
-    requires ladder { IsLadderOf finished.now ladder.now }
-    requires a { IsTerminal finished.now.net a }
-    requires b { IsTerminal finished.now.net b }
+    requires ladder { IsLadderOf finished.now.tree ladder.now }
+    requires a { IsTerminal finished.now.tree.net a }
+    requires b { IsTerminal finished.now.tree.net b }
     requires differ { a ≢ b }
-    ensures edge { IsLeastEdge finished.now.net (up_of finished.now) (width_of finished.now) a b result.child }
-    ensures width { result.width ≡ width_of finished.now result.child }
-    ensures least { IsLeastCut finished.now.net a b
-        (side_for finished.now.net.routers (up_of finished.now) a result.child) result.width }
-    ensures within { result.child < finished.now.net.routers }
+    ensures edge { IsLeastEdge finished.now.tree.net (up_of finished.now.tree) (width_of finished.now.tree) a b result.child }
+    ensures width { result.width ≡ width_of finished.now.tree result.child }
+    ensures least { IsLeastCut finished.now.tree.net a b
+        (side_for finished.now.tree.net.routers (up_of finished.now.tree) a result.child) result.width }
+    ensures within { result.child < finished.now.tree.net.routers }
 {
     least_on_path_from::<Brand>(ladder, finished, a, b, Blank::new(1))
 }

@@ -2,7 +2,7 @@
 ghost use Rattle.std.specs.Prelude.{◌≡◌, ◌≢◌, ◌+◌, ◌<◌, ◌≤◌, ◌++◌, true, All};
 ghost use Rattle.std.specs.Prelude.{length, take, drop, reverse, vec_capacity, vec_len};
 ghost use Rattle.cut_model.specs.Terminals.{IsTerminal};
-ghost use Rattle.tree_state.specs.Growing.{up_of, HoldsCutTree};
+ghost use Rattle.tree_state.specs.Views.{up_of, HoldsCutTree};
 ghost use Rattle.tree_state.specs.Shown.{ShowsSet};
 ghost use Rattle.tree_state.specs.Tables.{below};
 ghost use Rattle.path_minimum.specs.Ladders.{depth_of};
@@ -15,11 +15,11 @@ use tree_state::Finished;
 
 /// The routers of the way up of a terminal: those that have it below them.
 fn mark_way(finished: &Finished, router: u32) -> Side
-    requires { IsTerminal finished.now.net router }
-    ensures marks { ShowsSet finished.now.net.routers
-        (λ c. below finished.now.net.routers (up_of finished.now) c router) result }
-    ensures tree { HoldsCutTree finished.now }
-    ensures few { finished.now.net.routers ≤ 1024 }
+    requires { IsTerminal finished.now.tree.net router }
+    ensures marks { ShowsSet finished.now.tree.net.routers
+        (λ c. below finished.now.tree.net.routers (up_of finished.now.tree) c router) result }
+    ensures tree { HoldsCutTree finished.now.tree }
+    ensures few { finished.now.tree.net.routers ≤ 1024 }
 {
     let root = finished.root();
     let mut marks = Side::empty(finished.net().routers());
@@ -34,11 +34,11 @@ fn mark_way(finished: &Finished, router: u32) -> Side
 
 /// Where the ways up of two terminals meet: the first router of that of `b` that is on that of `a` too.
 fn meeting_of(finished: &Finished, a: u32, b: u32) -> u32
-    requires a { IsTerminal finished.now.net a }
-    requires b { IsTerminal finished.now.net b }
-    ensures meeting { IsMeeting finished.now.net (up_of finished.now) a b result }
-    ensures tree { HoldsCutTree finished.now }
-    ensures few { finished.now.net.routers ≤ 1024 }
+    requires a { IsTerminal finished.now.tree.net a }
+    requires b { IsTerminal finished.now.tree.net b }
+    ensures meeting { IsMeeting finished.now.tree.net (up_of finished.now.tree) a b result }
+    ensures tree { HoldsCutTree finished.now.tree }
+    ensures few { finished.now.tree.net.routers ≤ 1024 }
 {
     let marks = mark_way(finished, a);
     let mut at = b;
@@ -50,13 +50,13 @@ fn meeting_of(finished: &Finished, a: u32, b: u32) -> u32
 
 /// Adds the routers of the way from one terminal up to another, without the last.
 fn push_way(finished: &Finished, from: u32, to: u32, children: &mut Vec<u32>)
-    requires tree { HoldsCutTree finished.now }
-    requires from { IsTerminal finished.now.net from }
-    requires to { IsTerminal finished.now.net to }
-    requires above { below finished.now.net.routers (up_of finished.now) to from ≡ true }
-    requires room { vec_len children.old + depth_of finished.now from ≤ 1024 + depth_of finished.now to }
+    requires tree { HoldsCutTree finished.now.tree }
+    requires from { IsTerminal finished.now.tree.net from }
+    requires to { IsTerminal finished.now.tree.net to }
+    requires above { below finished.now.tree.net.routers (up_of finished.now.tree) to from ≡ true }
+    requires room { vec_len children.old + depth_of finished.now.tree from ≤ 1024 + depth_of finished.now.tree to }
     requires capacity { 1024 ≤ vec_capacity children.old }
-    ensures way { children.new.items ≡ children.old.items ++ way_between finished.now from to }
+    ensures way { children.new.items ≡ children.old.items ++ way_between finished.now.tree from to }
     ensures capacity { vec_capacity children.new ≡ vec_capacity children.old }
 {
     let mut at = from;
@@ -78,12 +78,12 @@ fn turn_behind(children: &mut [u32], front: usize)
 /// ways up of the two meet, and from there down to `b`. Each router of the two ways up is passed at most
 /// twice. It takes no memory.
 pub fn path(finished: &Finished, a: u32, b: u32, room: &mut PathRoom)
-    requires a { IsTerminal finished.now.net a }
-    requires b { IsTerminal finished.now.net b }
+    requires a { IsTerminal finished.now.tree.net a }
+    requires b { IsTerminal finished.now.tree.net b }
     requires differ { a ≢ b }
-    ensures path { IsOrderedPath finished.now.net (up_of finished.now) a b room.new }
-    ensures few { length room.new < finished.now.net.routers }
-    ensures within { All (λ c. c < finished.now.net.routers) room.new }
+    ensures path { IsOrderedPath finished.now.tree.net (up_of finished.now.tree) a b room.new }
+    ensures few { length room.new < finished.now.tree.net.routers }
+    ensures within { All (λ c. c < finished.now.tree.net.routers) room.new }
 {
     let meeting = meeting_of(finished, a, b);
     room.children.clear();

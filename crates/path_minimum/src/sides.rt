@@ -1,6 +1,6 @@
 //! The sides of an edge.
 ghost use Rattle.std.specs.Prelude.{◌<◌};
-ghost use Rattle.tree_state.specs.Growing.{up_of};
+ghost use Rattle.tree_state.specs.Views.{up_of};
 ghost use Rattle.tree_state.specs.Paths.{side_for};
 ghost use Rattle.tree_state.specs.Shown.{ShowsSet};
 
@@ -11,10 +11,10 @@ use tree_state::{Finished, side_below};
 /// The side of the edge above `child` that holds `a`: what is below `child`, or all other routers. The
 /// time is proportional to the number of routers.
 pub fn side_holding(finished: &Finished, child: u32, a: u32) -> Side
-    requires child { child < finished.now.net.routers }
-    requires a { a < finished.now.net.routers }
-    ensures { ShowsSet finished.now.net.routers
-        (side_for finished.now.net.routers (up_of finished.now) a child) result }
+    requires child { child < finished.now.tree.net.routers }
+    requires a { a < finished.now.tree.net.routers }
+    ensures { ShowsSet finished.now.tree.net.routers
+        (side_for finished.now.tree.net.routers (up_of finished.now.tree) a child) result }
 {
     let mut side = side_below(finished, child);
     if !side.has(a) {

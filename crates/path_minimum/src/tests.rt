@@ -61,7 +61,7 @@ fn row_of_six(rt: &impl Abort, alloc: Global) -> Result<Finished, Fail> {
 
 /// Whether a number is that of a terminal.
 fn has_terminal(tree: &Finished, router: u32) -> bool
-    ensures { IsTrue result → IsTerminal tree.now.net router }
+    ensures { IsTrue result → IsTerminal tree.now.tree.net router }
 {
     let net = tree.net();
     router < net.routers() && net.is_terminal(router)
@@ -85,7 +85,7 @@ fn expect_path(
 
 /// Sees which edge of the path between two terminals is the least.
 fn expect_least(rt: &impl Abort, tree: &Finished, ladder: &Ladder, a: u32, b: u32, least: PathLeast)
-    requires { IsLadderOf tree.now ladder.now }
+    requires { IsLadderOf tree.now.tree ladder.now }
 {
     assert!(rt; has_terminal(tree, a));
     assert!(rt; has_terminal(tree, b));

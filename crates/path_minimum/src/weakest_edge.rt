@@ -1,7 +1,7 @@
 //! The weakest edge of a tree.
 ghost use Rattle.std.specs.Prelude.{◌≡◌, ◌↔◌, ◌+◌, ◌<◌, IsNone, IfSome};
 ghost use Rattle.cut_model.specs.Terminals.{terminal_count, root_of};
-ghost use Rattle.tree_state.specs.Growing.{up_of, width_of};
+ghost use Rattle.tree_state.specs.Views.{up_of, width_of};
 ghost use Rattle.tree_state.specs.Paths.{IsWeakest, IsGlobalCut};
 ghost use Rattle.tree_state.specs.Tables.{below};
 ghost use Rattle.path_minimum.specs.Walks.{IsWeakestBelow};
@@ -11,9 +11,9 @@ use tree_state::Finished;
 
 /// The weakest of the edges above the routers up to this one, by the weakest of those before it.
 fn weaker(finished: &Finished, child: u32, before: Option<PathLeast>) -> Option<PathLeast>
-    requires child { child < finished.now.net.routers }
-    requires before { IsWeakestBelow finished.now child before }
-    ensures { IsWeakestBelow finished.now (child + 1) result }
+    requires child { child < finished.now.tree.net.routers }
+    requires before { IsWeakestBelow finished.now.tree child before }
+    ensures { IsWeakestBelow finished.now.tree (child + 1) result }
 {
     if !finished.net().is_terminal(child) {
         return before;
@@ -32,13 +32,13 @@ fn weaker(finished: &Finished, child: u32, before: Option<PathLeast>) -> Option<
 /// smallest number. What is below it is a least cut of the whole network (Gomory and Hu, 1961). `None`
 /// where there is one terminal alone. It looks at each router once.
 pub fn weakest(finished: &Finished) -> Option<PathLeast>
-    ensures none { IsNone result ↔ (terminal_count finished.now.net ≡ 1) }
+    ensures none { IsNone result ↔ (terminal_count finished.now.tree.net ≡ 1) }
     ensures edge { IfSome result (λ edge.
-        IsWeakest finished.now.net (root_of finished.now.net) (width_of finished.now) edge.child) }
-    ensures width { IfSome result (λ edge. edge.width ≡ width_of finished.now edge.child) }
-    ensures least { IfSome result (λ edge. IsGlobalCut finished.now.net
-        (below finished.now.net.routers (up_of finished.now) edge.child) edge.width) }
-    ensures within { IfSome result (λ edge. edge.child < finished.now.net.routers) }
+        IsWeakest finished.now.tree.net (root_of finished.now.tree.net) (width_of finished.now.tree) edge.child) }
+    ensures width { IfSome result (λ edge. edge.width ≡ width_of finished.now.tree edge.child) }
+    ensures least { IfSome result (λ edge. IsGlobalCut finished.now.tree.net
+        (below finished.now.tree.net.routers (up_of finished.now.tree) edge.child) edge.width) }
+    ensures within { IfSome result (λ edge. edge.child < finished.now.tree.net.routers) }
 {
     let mut least = None;
     for child in 0..finished.net().routers() {

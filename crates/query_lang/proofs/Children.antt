@@ -1,7 +1,7 @@
 -- The lines of the edges of a tree, router by router.
 use Rattle.std.proofs.Common.{◌≡◌, ℕ, List, [], ◌∷◌, ◌++◌, Bool, true, false, cond, map, refl, ap, ◌∙◌}
 use Rattle.std.specs.List.{concat, filter, range_with_len}
-use Rattle.tree_state.specs.Growing.{GrowingView}
+use Rattle.tree_state.specs.Views.{TreeView}
 use Rattle.query_lang.specs.Trees.{child_line, child_piece, children_of, is_child}
 
 -- The lines of what passes a test are the pieces of all: a line where it passes, and else nothing.
@@ -16,7 +16,7 @@ concat-filter {A = A} test line (x ∷ xs) = elim (test x) as
     ]
 
 -- The lines of the edges of a tree are the pieces of all routers.
-pub concat-children_of : (names : List (List ℕ)) (tree : GrowingView) (routers : ℕ) → tree.net.routers ≡ routers
+pub concat-children_of : (names : List (List ℕ)) (tree : TreeView) (routers : ℕ) → tree.net.routers ≡ routers
     → concat (map (child_line names tree) (children_of tree.net))
     ≡ concat (map (child_piece names tree) (range_with_len 0 routers))
 concat-children_of names tree routers same =

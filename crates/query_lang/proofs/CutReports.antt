@@ -4,7 +4,7 @@ use Rattle.cut_model.specs.Net.{IsInLimits}
 use Rattle.cut_model.specs.Cuts.{IsLeastCut}
 use Rattle.cut_model.specs.Terminals.{root_of}
 use Rattle.network_text.specs.Sheets.{SheetView}
-use Rattle.tree_state.specs.Growing.{GrowingView, up_of, width_of}
+use Rattle.tree_state.specs.Views.{TreeView, up_of, width_of}
 use Rattle.tree_state.specs.Paths.{IsGlobalCut, IsLeastEdge, IsWeakest, side_for}
 use Rattle.tree_state.specs.Shown.{ShowsSet}
 use Rattle.tree_state.specs.Tables.{below}
@@ -13,7 +13,7 @@ use Rattle.query_lang.specs.Replies.{cut_text}
 use Rattle.query_lang.specs.Reports.{IsCutReport, IsWeakestReport}
 
 -- The least edge of a path, with a side that shows what it cuts off for the first router, is a reply to CUT.
-pub cut_report : (version : ℕ) (sheet : SheetView) (tree : GrowingView) (a b child width : ℕ) (side : List Bool)
+pub cut_report : (version : ℕ) (sheet : SheetView) (tree : TreeView) (a b child width : ℕ) (side : List Bool)
     → IsInLimits tree.net → a < tree.net.routers → b < tree.net.routers
     → IsLeastEdge tree.net (up_of tree) (width_of tree) a b child → width ≡ width_of tree child
     → IsLeastCut tree.net a b (side_for tree.net.routers (up_of tree) a child) width
@@ -31,7 +31,7 @@ cut_report version sheet tree a b child width side limits a_low b_low edge is le
     }
 
 -- The weakest edge, with a side that shows what is below it, is a reply to WEAKEST.
-pub weakest_report : (version : ℕ) (sheet : SheetView) (tree : GrowingView) (child width : ℕ) (side : List Bool)
+pub weakest_report : (version : ℕ) (sheet : SheetView) (tree : TreeView) (child width : ℕ) (side : List Bool)
     → IsInLimits tree.net
     → IsWeakest tree.net (root_of tree.net) (width_of tree) child → width ≡ width_of tree child
     → IsGlobalCut tree.net (below tree.net.routers (up_of tree) child) width

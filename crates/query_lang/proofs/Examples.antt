@@ -14,7 +14,7 @@ use Rattle.query_lang.specs.Replies.{bye_text, cut_text, head_text, loaded_text,
 use Rattle.query_lang.specs.Reports.{IsReport}
 use Rattle.query_lang.specs.Requests.{fault_number, request_of}
 use Rattle.query_lang.specs.Trees.{path_text, run_text, tree_text}
-use Rattle.tree_state.specs.Growing.{GrowingView, up_of, width_of}
+use Rattle.tree_state.specs.Views.{TreeView, up_of, width_of}
 use Rattle.tree_state.specs.History.{tables}
 use Rattle.tree_state.specs.Tables.{below, some_up, up_after, width_after}
 use Rattle.tree_state.specs.Paths.{side_for}
@@ -213,7 +213,7 @@ routers : List ℕ
 routers = 0 ∷ 1 ∷ 2 ∷ 3 ∷ 4 ∷ 5 ∷ []
 
 -- Their tree, by commits in the order of their numbers, each with a least cut.
-grown : GrowingView
+grown : TreeView
 grown = record {
   net = six.net;
   history = record { router = 1; neighbour = 0; value = 6; side = false ∷ true ∷ false ∷ true ∷ true ∷ true ∷ [] }

@@ -28,7 +28,7 @@ use Rattle.query_lang.specs.Trees.{tree_text}
 use Rattle.query_lang.specs.declared.request.Request.{Request}
 use Rattle.query_lang.specs.declared.request.Request.TheVariants.{Cut, Path, Tree, Run, Weakest}
 use Rattle.query_lang.specs.declared.request.Request.TheVariants as asks
-use Rattle.tree_state.specs.Growing.{GrowingView, up_of, width_of}
+use Rattle.tree_state.specs.Views.{TreeView, up_of, width_of}
 
 -- Digits put before others are at most as many as are asked for.
 length-digits_onto : (k base : ℕ) (upper : Bool) (n : ℕ) (behind : List ℕ)
@@ -197,7 +197,7 @@ length-children_of net =
     )
 
 -- The tree fits: a line of 131 bytes for each of 1,024 routers, and the first line.
-pub length-tree_text : (version : ℕ) (sheet : SheetView) (tree : GrowingView) → IsSheet sheet.names sheet.net
+pub length-tree_text : (version : ℕ) (sheet : SheetView) (tree : TreeView) → IsSheet sheet.names sheet.net
     → tree.net ≡ sheet.net → length (tree_text version sheet tree) ≤ 740000
 unfolding tree_text
 length-tree_text version sheet tree is same =
@@ -213,7 +213,7 @@ length-tree_text version sheet tree is same =
     omega (arith, few, routers, lines, head, length-children_of tree.net, whole)
 
 -- The run fits: as many lines as the tree has.
-pub length-run_text : (version : ℕ) (sheet : SheetView) (tree : GrowingView) → IsSheet sheet.names sheet.net
+pub length-run_text : (version : ℕ) (sheet : SheetView) (tree : TreeView) → IsSheet sheet.names sheet.net
     → length tree.history ≤ 1024 → length (run_text version sheet tree) ≤ 740000
 unfolding run_text
 length-run_text version sheet tree is few =
@@ -226,7 +226,7 @@ length-run_text version sheet tree is few =
     omega (arith, few, lines, head, whole)
 
 -- A path fits: a line of 131 bytes for each of at most 2,050 edges, and the first line.
-pub length-path_text : (version a b : ℕ) (sheet : SheetView) (tree : GrowingView) (children : List ℕ)
+pub length-path_text : (version a b : ℕ) (sheet : SheetView) (tree : TreeView) (children : List ℕ)
     → IsSheet sheet.names sheet.net → tree.net ≡ sheet.net → IsOrderedPath tree.net (up_of tree) a b children
     → length (path_text version sheet tree children) ≤ 740000
 unfolding path_text
@@ -241,7 +241,7 @@ length-path_text version a b sheet tree children is same path =
     omega (arith, few, routers, lines, head, length-path tree.net (up_of tree) a b children path, whole)
 
 -- Each report fits.
-pub length-report : (version : ℕ) (sheet : SheetView) (tree : GrowingView) (request : Request) (text : List ℕ)
+pub length-report : (version : ℕ) (sheet : SheetView) (tree : TreeView) (request : Request) (text : List ℕ)
     → IsSheet sheet.names sheet.net → tree.net ≡ sheet.net → length tree.history ≤ 1024
     → IsReport version sheet tree request text → length text ≤ 740000
 length-report version sheet tree (Cut a b) text is same few report =

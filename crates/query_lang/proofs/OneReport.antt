@@ -5,7 +5,7 @@ use Rattle.cut_model.specs.Net.{Net}
 use Rattle.cut_model.specs.Cuts.{RouterSet}
 use Rattle.cut_model.specs.Terminals.{root_of}
 use Rattle.network_text.specs.Sheets.{SheetView}
-use Rattle.tree_state.specs.Growing.{GrowingView, up_of, width_of}
+use Rattle.tree_state.specs.Views.{TreeView, up_of, width_of}
 use Rattle.tree_state.specs.Paths.{IsLeastEdge, IsWeakest, side_for}
 use Rattle.tree_state.specs.Shown.{ShowsSet}
 use Rattle.tree_state.specs.Tables.{Table, below}
@@ -38,7 +38,7 @@ shown_once n X side other p q =
     (λ r within. p.shows r (omega (arith, p.size)) ∙ sym (q.shows r (omega (arith, p.size))))
 
 -- One text is the reply to CUT,
-cut_once : (version : ℕ) (sheet : SheetView) (tree : GrowingView) (a b : ℕ) (text other : List ℕ)
+cut_once : (version : ℕ) (sheet : SheetView) (tree : TreeView) (a b : ℕ) (text other : List ℕ)
     → IsCutReport version sheet tree a b text → IsCutReport version sheet tree a b other → text ≡ other
 cut_once version sheet tree a b text other p q =
     let child : q.child ≡ p.child =
@@ -48,7 +48,7 @@ cut_once version sheet tree a b text other p q =
     p.text_is ∙ sym (q.text_is ∙ rw (child, side) refl)
 
 -- one that to PATH,
-path_report_once : (version : ℕ) (sheet : SheetView) (tree : GrowingView) (a b : ℕ) (text other : List ℕ)
+path_report_once : (version : ℕ) (sheet : SheetView) (tree : TreeView) (a b : ℕ) (text other : List ℕ)
     → IsPathReport version sheet tree a b text → IsPathReport version sheet tree a b other → text ≡ other
 path_report_once version sheet tree a b text other p q =
     p.text_is
@@ -56,7 +56,7 @@ path_report_once version sheet tree a b text other p q =
     ∙ sym q.text_is
 
 -- and one that to WEAKEST.
-weakest_report_once : (version : ℕ) (sheet : SheetView) (tree : GrowingView) (text other : List ℕ)
+weakest_report_once : (version : ℕ) (sheet : SheetView) (tree : TreeView) (text other : List ℕ)
     → IsWeakestReport version sheet tree text → IsWeakestReport version sheet tree other → text ≡ other
 weakest_report_once version sheet tree text other p q =
     let child : q.child ≡ p.child =
@@ -66,7 +66,7 @@ weakest_report_once version sheet tree text other p q =
     p.text_is ∙ sym (q.text_is ∙ rw (child, side) refl)
 
 -- So each request has one report.
-pub report_once : (version : ℕ) (sheet : SheetView) (tree : GrowingView) (request : Request) (text other : List ℕ)
+pub report_once : (version : ℕ) (sheet : SheetView) (tree : TreeView) (request : Request) (text other : List ℕ)
     → IsReport version sheet tree request text → IsReport version sheet tree request other → text ≡ other
 report_once version sheet tree (Cut a b) text other p q = cut_once version sheet tree a b text other p q
 report_once version sheet tree (Path a b) text other p q = path_report_once version sheet tree a b text other p q

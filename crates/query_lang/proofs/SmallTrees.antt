@@ -6,7 +6,7 @@ use Rattle.cut_model.specs.Cuts.{RouterSet, cut_value, set_of, IsLeastCut}
 use Rattle.cut_model.specs.Held.{CutView}
 use Rattle.cut_model.specs.Terminals.{IsTerminal, is_terminal, root_of}
 use Rattle.cut_model.proofs.Terminals.{all_terminals, root-lt, root_terminal, terminal-lt}
-use Rattle.tree_state.specs.Growing.{GrowingView, HoldsCutTree}
+use Rattle.tree_state.specs.Views.{TreeView, HoldsCutTree}
 use Rattle.tree_state.specs.History.{AllEntered, IsComplete, IsLegalAfter, MayFollow, entered, tables}
 use Rattle.tree_state.specs.Tables.{up_after}
 use Rattle.tree_state.specs.declared.entry.Entry.{Entry}
@@ -87,14 +87,14 @@ unfolding IsLegalAfter
 chain_complete = record { legal = (last_follows, (middle_follows, tt)); all = both_entered }
 
 -- What a tree of the chain has to be for a commit.
-pub record MayCommit (grow : GrowingView) (cut : CutView) : Type 0 where
+pub record MayCommit (grow : TreeView) (cut : CutView) : Type 0 where
   pub terminal : IsTerminal grow.net cut.router
   pub not_root : cut.router ≢ root_of grow.net
   pub fresh : entered grow.history cut.router ≡ false
   pub neighbour : cut.neighbour ≡ (tables (root_of grow.net) grow.history).up cut.router
 
 -- A cut that an entry holds may be committed where the entry may follow.
-pub may_commit : (grow : GrowingView) (cut : CutView) (before : List Entry) (entry : Entry)
+pub may_commit : (grow : TreeView) (cut : CutView) (before : List Entry) (entry : Entry)
     → MayFollow chain before entry
     → grow.net ≡ chain → grow.history ≡ before → cut.router ≡ entry.router → cut.neighbour ≡ entry.neighbour
     → MayCommit grow cut
@@ -106,7 +106,7 @@ may_commit grow cut before entry may net history router neighbour = record {
 }
 
 -- A tree that may be held as finished.
-pub record IsFinished (tree : GrowingView) : Type 0 where
+pub record IsFinished (tree : TreeView) : Type 0 where
   pub complete : IsComplete tree.net tree.history
   pub cut_tree : HoldsCutTree tree
 
@@ -117,7 +117,7 @@ finished net history root complete =
     record { complete = complete; cut_tree = complete_cut_tree net root history complete }
 
 -- The tree of the chain is finished behind both commits.
-pub chain_finished : (tree : GrowingView) → tree.net ≡ chain → tree.history ≡ last ∷ middle ∷ [] → IsFinished tree
+pub chain_finished : (tree : TreeView) → tree.net ≡ chain → tree.history ≡ last ∷ middle ∷ [] → IsFinished tree
 unfolding root_of
 chain_finished tree net history =
     rw (net, history) (finished chain (last ∷ middle ∷ []) (all_terminals chain 0 (omega arith)) chain_complete)
@@ -135,7 +135,7 @@ lone_complete net limits one = record {
 }
 
 -- So its tree is finished at once.
-pub lone_finished : (tree : GrowingView) → IsInLimits tree.net → tree.net.routers ≡ 1
+pub lone_finished : (tree : TreeView) → IsInLimits tree.net → tree.net.routers ≡ 1
     → tree.history ≡ [] → IsFinished tree
 lone_finished tree limits one none =
     rw none (finished tree.net [] (root_terminal tree.net limits) (lone_complete tree.net limits one))

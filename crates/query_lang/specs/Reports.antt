@@ -5,7 +5,7 @@ use Rattle.cut_model.specs.Cuts.{IsLeastCut, set_of}
 use Rattle.cut_model.specs.Terminals.{root_of}
 use Rattle.network_text.specs.Sheets.{SheetView}
 use Rattle.path_minimum.specs.Paths.{IsOrderedPath}
-use Rattle.tree_state.specs.Growing.{GrowingView, up_of, width_of}
+use Rattle.tree_state.specs.Views.{TreeView, up_of, width_of}
 use Rattle.tree_state.specs.Paths.{IsLeastEdge, IsWeakest, IsGlobalCut, side_for}
 use Rattle.tree_state.specs.Shown.{ShowsSet}
 use Rattle.tree_state.specs.Tables.{below}
@@ -18,7 +18,7 @@ use Rattle.query_lang.specs.Trees.{path_text, run_text, tree_text}
 
 -- The reply to CUT tells the least edge of the path of routers a and b: its width, and the names of the routers on the
 -- side of it that holds a. So it is a cut of a from b, costs its value, and no other cut of a from b costs less.
-pub record IsCutReport (version : ℕ) (sheet : SheetView) (tree : GrowingView) (a b : ℕ) (text : List ℕ) : Type 0 where
+pub record IsCutReport (version : ℕ) (sheet : SheetView) (tree : TreeView) (a b : ℕ) (text : List ℕ) : Type 0 where
   pub child : ℕ
   pub least_edge : IsLeastEdge tree.net (up_of tree) (width_of tree) a b child
   pub side : List Bool
@@ -27,14 +27,14 @@ pub record IsCutReport (version : ℕ) (sheet : SheetView) (tree : GrowingView) 
   pub text_is : text ≡ cut_text version (codes "CUT") (width_of tree child) sheet.names side
 
 -- The reply to PATH tells the edges of the path of routers a and b in their order.
-pub record IsPathReport (version : ℕ) (sheet : SheetView) (tree : GrowingView) (a b : ℕ) (text : List ℕ) : Type 0 where
+pub record IsPathReport (version : ℕ) (sheet : SheetView) (tree : TreeView) (a b : ℕ) (text : List ℕ) : Type 0 where
   pub children : List ℕ
   pub path : IsOrderedPath tree.net (up_of tree) a b children
   pub text_is : text ≡ path_text version sheet tree children
 
 -- The reply to WEAKEST tells the weakest edge of the tree: its width, and the names of the routers below it. So it
 -- parts terminals, costs its value, and no other set that parts terminals costs less.
-pub record IsWeakestReport (version : ℕ) (sheet : SheetView) (tree : GrowingView) (text : List ℕ) : Type 0 where
+pub record IsWeakestReport (version : ℕ) (sheet : SheetView) (tree : TreeView) (text : List ℕ) : Type 0 where
   pub child : ℕ
   pub weakest : IsWeakest tree.net (root_of tree.net) (width_of tree) child
   pub side : List Bool
@@ -43,7 +43,7 @@ pub record IsWeakestReport (version : ℕ) (sheet : SheetView) (tree : GrowingVi
   pub text_is : text ≡ cut_text version (codes "WEAKEST") (width_of tree child) sheet.names side
 
 -- The text is the reply to a request from a network with the names of its routers, and its tree.
-abbrev pub IsReport : ℕ → SheetView → GrowingView → Request → List ℕ → Type 0
+abbrev pub IsReport : ℕ → SheetView → TreeView → Request → List ℕ → Type 0
 IsReport version sheet tree (Cut a b) text = IsCutReport version sheet tree a b text
 IsReport version sheet tree (Path a b) text = IsPathReport version sheet tree a b text
 IsReport version sheet tree Tree text = text ≡ tree_text version sheet tree

@@ -7,7 +7,7 @@ use Rattle.cut_model.specs.Cuts.{RouterSet}
 use Rattle.cut_model.specs.Terminals.{is_terminal, root_of, terminal_count}
 use Rattle.network_text.specs.Sheets.{SheetView}
 use Rattle.network_text.specs.Writing.{name_at}
-use Rattle.tree_state.specs.Growing.{GrowingView, up_of, width_of}
+use Rattle.tree_state.specs.Views.{TreeView, up_of, width_of}
 use Rattle.tree_state.specs.declared.entry.Entry.{Entry}
 use Rattle.query_lang.specs.Replies.{head_text}
 
@@ -25,15 +25,15 @@ abbrev pub children_of : Net → List ℕ
 children_of net = filter (is_child net) (range_with_len 0 net.routers)
 
 -- The line of the edge that leads up from a router, with its width.
-abbrev pub child_line : List (List ℕ) → GrowingView → ℕ → List ℕ
+abbrev pub child_line : List (List ℕ) → TreeView → ℕ → List ℕ
 child_line names tree child = edge_line names child (up_of tree child) (width_of tree child)
 
 -- That line where there is such an edge, and nothing for the root and for routers that are no terminals.
-abbrev pub child_piece : List (List ℕ) → GrowingView → ℕ → List ℕ
+abbrev pub child_piece : List (List ℕ) → TreeView → ℕ → List ℕ
 child_piece names tree router = if is_child tree.net router then child_line names tree router else []
 
 -- The tree: for each terminal but the root, the router above it and the width of the edge between the two.
-unfoldable pub tree_text : ℕ → SheetView → GrowingView → List ℕ
+unfoldable pub tree_text : ℕ → SheetView → TreeView → List ℕ
 tree_text version sheet tree = head_text version (codes "TREE") (terminal_count tree.net - 1)
     ++ concat (map (child_line sheet.names tree) (children_of tree.net))
 
@@ -42,11 +42,11 @@ abbrev pub commit_line : List (List ℕ) → Entry → List ℕ
 commit_line names entry = edge_line names entry.router entry.neighbour entry.value
 
 -- The run: its commits, the oldest first.
-unfoldable pub run_text : ℕ → SheetView → GrowingView → List ℕ
+unfoldable pub run_text : ℕ → SheetView → TreeView → List ℕ
 run_text version sheet tree = head_text version (codes "RUN") (length tree.history)
     ++ concat (map (commit_line sheet.names) tree.history)
 
 -- A path: the edges above its lower ends, in their order.
-unfoldable pub path_text : ℕ → SheetView → GrowingView → List ℕ → List ℕ
+unfoldable pub path_text : ℕ → SheetView → TreeView → List ℕ → List ℕ
 path_text version sheet tree children = head_text version (codes "PATH") (length children)
     ++ concat (map (child_line sheet.names tree) children)

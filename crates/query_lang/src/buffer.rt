@@ -121,9 +121,9 @@ pub fn report_reply(
 )
     requires reported { IsReported request.now }
     requires of { IsOf (Some sheet.now) request.now }
-    requires same { finished.now.net ≡ sheet.now.net }
-    requires ladder { IsLadderOf finished.now ladder.now }
-    ensures { IsReport version sheet.now finished.now request.now buffer.new }
+    requires same { finished.now.tree.net ≡ sheet.now.net }
+    requires ladder { IsLadderOf finished.now.tree ladder.now }
+    ensures { IsReport version sheet.now finished.now.tree request.now buffer.new }
 {
     prove!(sheet.net().links().len() <= 8192);
     prove!(finished.commits() < 1024);

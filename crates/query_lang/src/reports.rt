@@ -47,10 +47,10 @@ fn write_least_cut<K: Sink>(
     sink: &mut K,
 ) -> Result<(), Failed>
     requires ends { AreEnds sheet.now a b }
-    requires same { finished.now.net ≡ sheet.now.net }
-    requires ladder { IsLadderOf finished.now ladder.now }
+    requires same { finished.now.tree.net ≡ sheet.now.net }
+    requires ladder { IsLadderOf finished.now.tree ladder.now }
     ensures puts { PutsSome K.written K.write_faults K.beside_sink K.takes sink.old sink.new result
-        (IsCutReport version sheet.now finished.now a b) }
+        (IsCutReport version sheet.now finished.now.tree a b) }
 {
     prove!(a.max(b) < sheet.net().routers());
     let least = least_on_path_uncounted(ladder, finished, a, b);
@@ -69,9 +69,9 @@ fn write_ordered_path<K: Sink>(
     sink: &mut K,
 ) -> Result<(), Failed>
     requires ends { AreEnds sheet.now a b }
-    requires same { finished.now.net ≡ sheet.now.net }
+    requires same { finished.now.tree.net ≡ sheet.now.net }
     ensures puts { PutsSome K.written K.write_faults K.beside_sink K.takes sink.old sink.new result
-        (IsPathReport version sheet.now finished.now a b) }
+        (IsPathReport version sheet.now finished.now.tree a b) }
 {
     path(finished, a, b, room);
     write_path(version, sheet, finished, room.children(), sink)
@@ -86,9 +86,9 @@ fn write_weakest<K: Sink>(
     sink: &mut K,
 ) -> Result<(), Failed>
     requires some { 2 ≤ terminal_count sheet.now.net }
-    requires same { finished.now.net ≡ sheet.now.net }
+    requires same { finished.now.tree.net ≡ sheet.now.net }
     ensures puts { PutsSome K.written K.write_faults K.beside_sink K.takes sink.old sink.new result
-        (IsWeakestReport version sheet.now finished.now) }
+        (IsWeakestReport version sheet.now finished.now.tree) }
 {
     prove!(sheet.net().routers() <= 1024);
     let Some(least) = weakest(finished) else {
@@ -115,10 +115,10 @@ pub fn write_reply<K: Sink>(
 ) -> Result<(), Failed>
     requires reported { IsReported request.now }
     requires of { IsOf (Some sheet.now) request.now }
-    requires same { finished.now.net ≡ sheet.now.net }
-    requires ladder { IsLadderOf finished.now ladder.now }
+    requires same { finished.now.tree.net ≡ sheet.now.net }
+    requires ladder { IsLadderOf finished.now.tree ladder.now }
     ensures puts { PutsSome K.written K.write_faults K.beside_sink K.takes sink.old sink.new result
-        (IsReport version sheet.now finished.now request.now) }
+        (IsReport version sheet.now finished.now.tree request.now) }
 {
     match *request {
         Request::Cut(a, b) => write_least_cut(version, sheet, finished, ladder, a, b, sink),

@@ -23,7 +23,7 @@ fn chain_tree(alloc: Global, net: &Arc<Network>) -> Result<Finished, NoMemory>
       routers = 3;
       links = record { a = 0; b = 1; cap = 5 } ∷ record { a = 1; b = 2; cap = 7 } ∷ [];
     } }
-    ensures { IfOk result (λ f. f.net ≡ arc_value net.now) }
+    ensures { IfOk result (λ f. f.tree.net ≡ arc_value net.now) }
 {
     let mut grow = Growing::make(alloc, net.clone()?)?;
     let mut side = Side::empty(3);
@@ -40,7 +40,7 @@ fn chain_tree(alloc: Global, net: &Arc<Network>) -> Result<Finished, NoMemory>
 /// The tree of one router.
 fn lone_tree(alloc: Global, net: &Arc<Network>) -> Result<Finished, NoMemory>
     requires { (arc_value net.now).routers ≡ 1 }
-    ensures { IfOk result (λ f. f.net ≡ arc_value net.now) }
+    ensures { IfOk result (λ f. f.tree.net ≡ arc_value net.now) }
 {
     prove!(net.routers() == 1);
     let grow = Growing::make(alloc, net.clone()?)?;
@@ -57,8 +57,8 @@ fn answers(
     line: &str,
     reply: &str,
 ) -> bool
-    requires same { tree.now.net ≡ sheet.now.net }
-    requires ladder { IsLadderOf tree.now ladder.now }
+    requires same { tree.now.tree.net ≡ sheet.now.net }
+    requires ladder { IsLadderOf tree.now.tree ladder.now }
 {
     match parse_request(line.as_bytes(), Some(sheet)) {
         Ok(Request::Nothing | Request::Load | Request::Bye) | Err(_) => false,
@@ -78,8 +78,8 @@ fn answers_all(
     room: &mut PathRoom,
     table: &[(&str, &str)],
 ) -> bool
-    requires same { tree.now.net ≡ sheet.now.net }
-    requires ladder { IsLadderOf tree.now ladder.now }
+    requires same { tree.now.tree.net ≡ sheet.now.net }
+    requires ladder { IsLadderOf tree.now.tree ladder.now }
 {
     for &(line, reply) in table {
         if !answers(buffer, sheet, tree, ladder, room, line, reply) {

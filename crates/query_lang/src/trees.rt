@@ -46,10 +46,10 @@ fn write_child_line<K: Sink>(
     child: u32,
     sink: &mut K,
 ) -> Result<(), Failed>
-    requires same { finished.now.net ≡ sheet.now.net }
+    requires same { finished.now.tree.net ≡ sheet.now.net }
     requires within { child < sheet.now.net.routers }
     ensures puts { Puts K.written K.write_faults K.beside_sink K.takes sink.old sink.new result
-        (child_line sheet.now.names finished.now child) }
+        (child_line sheet.now.names finished.now.tree child) }
 {
     prove!(child < sheet.net().routers());
     let above = finished.up(child);
@@ -63,10 +63,10 @@ fn write_child<K: Sink>(
     router: u32,
     sink: &mut K,
 ) -> Result<(), Failed>
-    requires same { finished.now.net ≡ sheet.now.net }
+    requires same { finished.now.tree.net ≡ sheet.now.net }
     requires within { router < sheet.now.net.routers }
     ensures puts { Puts K.written K.write_faults K.beside_sink K.takes sink.old sink.new result
-        (child_piece sheet.now.names finished.now router) }
+        (child_piece sheet.now.names finished.now.tree router) }
 {
     let net = sheet.net();
     if net.is_terminal(router) && router != net.root() {
@@ -78,9 +78,9 @@ fn write_child<K: Sink>(
 
 /// Writes the lines of all edges, in the order of their lower ends.
 fn write_children<K: Sink>(sheet: &Sheet, finished: &Finished, sink: &mut K) -> Result<(), Failed>
-    requires { finished.now.net ≡ sheet.now.net }
+    requires { finished.now.tree.net ≡ sheet.now.net }
     ensures puts { Puts K.written K.write_faults K.beside_sink K.takes sink.old sink.new result
-        (concat (map (child_line sheet.now.names finished.now) (children_of finished.now.net))) }
+        (concat (map (child_line sheet.now.names finished.now.tree) (children_of finished.now.tree.net))) }
 {
     for router in 0..sheet.net().routers() {
         write_child(sheet, finished, router, sink)?;
@@ -90,8 +90,8 @@ fn write_children<K: Sink>(sheet: &Sheet, finished: &Finished, sink: &mut K) -> 
 
 /// How many edges the tree has. Each commit made one.
 fn edge_count(finished: &Finished) -> u64
-    ensures edges { result ≡ terminal_count finished.now.net - 1 }
-    ensures commits { result ≡ length finished.now.history }
+    ensures edges { result ≡ terminal_count finished.now.tree.net - 1 }
+    ensures commits { result ≡ length finished.now.tree.history }
 {
     u64::from(finished.commits())
 }
@@ -104,9 +104,9 @@ pub(crate) fn write_tree<K: Sink>(
     finished: &Finished,
     sink: &mut K,
 ) -> Result<(), Failed>
-    requires { finished.now.net ≡ sheet.now.net }
+    requires { finished.now.tree.net ≡ sheet.now.net }
     ensures puts { Puts K.written K.write_faults K.beside_sink K.takes sink.old sink.new result
-        (tree_text version sheet.now finished.now) }
+        (tree_text version sheet.now finished.now.tree) }
 {
     write_head(version, "TREE", edge_count(finished), sink)?;
     write_children(sheet, finished, sink)
@@ -114,9 +114,9 @@ pub(crate) fn write_tree<K: Sink>(
 
 /// The entry of the commit at a place. The sheet has names for its two routers.
 fn named_entry<'a>(sheet: &Sheet, finished: &'a Finished, place: u32) -> &'a Entry
-    requires same { finished.now.net ≡ sheet.now.net }
-    requires within { place < length finished.now.history }
-    ensures value { slice_get finished.now.history place ≡ Some result.now }
+    requires same { finished.now.tree.net ≡ sheet.now.net }
+    requires within { place < length finished.now.tree.history }
+    ensures value { slice_get finished.now.tree.history place ≡ Some result.now }
     ensures router { result.now.router < length sheet.now.names }
     ensures neighbour { result.now.neighbour < length sheet.now.names }
 {
@@ -126,9 +126,9 @@ fn named_entry<'a>(sheet: &Sheet, finished: &'a Finished, place: u32) -> &'a Ent
 
 /// Writes the lines of all commits, the oldest first.
 fn write_commits<K: Sink>(sheet: &Sheet, finished: &Finished, sink: &mut K) -> Result<(), Failed>
-    requires { finished.now.net ≡ sheet.now.net }
+    requires { finished.now.tree.net ≡ sheet.now.net }
     ensures puts { Puts K.written K.write_faults K.beside_sink K.takes sink.old sink.new result
-        (concat (map (commit_line sheet.now.names) finished.now.history)) }
+        (concat (map (commit_line sheet.now.names) finished.now.tree.history)) }
 {
     for place in 0..finished.commits() {
         let entry = named_entry(sheet, finished, place);
@@ -145,9 +145,9 @@ pub(crate) fn write_run<K: Sink>(
     finished: &Finished,
     sink: &mut K,
 ) -> Result<(), Failed>
-    requires { finished.now.net ≡ sheet.now.net }
+    requires { finished.now.tree.net ≡ sheet.now.net }
     ensures puts { Puts K.written K.write_faults K.beside_sink K.takes sink.old sink.new result
-        (run_text version sheet.now finished.now) }
+        (run_text version sheet.now finished.now.tree) }
 {
     write_head(version, "RUN", edge_count(finished), sink)?;
     write_commits(sheet, finished, sink)
@@ -160,10 +160,10 @@ fn write_edges<K: Sink>(
     children: &[u32],
     sink: &mut K,
 ) -> Result<(), Failed>
-    requires same { finished.now.net ≡ sheet.now.net }
+    requires same { finished.now.tree.net ≡ sheet.now.net }
     requires within { All (λ child. child < sheet.now.net.routers) children.now }
     ensures puts { Puts K.written K.write_faults K.beside_sink K.takes sink.old sink.new result
-        (concat (map (child_line sheet.now.names finished.now) children.now)) }
+        (concat (map (child_line sheet.now.names finished.now.tree) children.now)) }
 {
     for child in children {
         write_child_line(sheet, finished, *child, sink)?;
@@ -180,10 +180,10 @@ pub(crate) fn write_path<K: Sink>(
     children: &[u32],
     sink: &mut K,
 ) -> Result<(), Failed>
-    requires same { finished.now.net ≡ sheet.now.net }
+    requires same { finished.now.tree.net ≡ sheet.now.net }
     requires within { All (λ child. child < sheet.now.net.routers) children.now }
     ensures puts { Puts K.written K.write_faults K.beside_sink K.takes sink.old sink.new result
-        (path_text version sheet.now finished.now children.now) }
+        (path_text version sheet.now finished.now.tree children.now) }
 {
     write_head(version, "PATH", children.len() as u64, sink)?;
     write_edges(sheet, finished, children, sink)

@@ -13,7 +13,7 @@ use Rattle.query_lang.specs.Replies.{loaded_text, bye_text, refused_text, cut_te
 use Rattle.query_lang.specs.Reports.{IsCutReport}
 use Rattle.query_lang.specs.Trees.{tree_text}
 use Rattle.text_forms.specs.Items.{Item, Ask, Load, Bye, items_of}
-use Rattle.tree_state.specs.Growing.{GrowingView, up_of, width_of}
+use Rattle.tree_state.specs.Views.{TreeView, up_of, width_of}
 use Rattle.tree_state.specs.History.{tables}
 use Rattle.tree_state.specs.Paths.{IsLeastEdge, IsOnPath, side_for}
 use Rattle.tree_state.specs.Tables.{some_up, up_after, width_after}
@@ -64,7 +64,7 @@ made = record {
 }
 
 -- its tree: the second router hangs from the first one by an edge of 5
-abbrev tree : GrowingView
+abbrev tree : TreeView
 tree = tree_of made
 
 -- the path of the two has that one edge

@@ -58,7 +58,7 @@ pub fn build_tree(
     net: &Arc<Network>,
 ) -> Result<Finished, NoMemory>
     requires room { desk.old.room ≡ record { routers = 1024; links = 8192 } }
-    ensures net { IfOk result (λ tree. tree.net ≡ arc_value net.now) }
+    ensures net { IfOk result (λ finished. finished.tree.net ≡ arc_value net.now) }
     ensures room { desk.new.room ≡ desk.old.room }
 {
     let mut grow = Growing::make(alloc, net.clone()?)?;

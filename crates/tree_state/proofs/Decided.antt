@@ -10,7 +10,7 @@ use Rattle.cut_model.specs.Cuts.{RouterSet, set_of}
 use Rattle.cut_model.specs.Terminals.{root_of}
 use Rattle.cut_model.proofs.Terminals.{terminal-lt}
 use Rattle.tree_state.specs.Tables.{Table, some_up, below}
-use Rattle.tree_state.specs.Growing.{GrowingView, up_of, width_of, HoldsCutTree}
+use Rattle.tree_state.specs.Views.{TreeView, up_of, width_of, HoldsCutTree}
 use Rattle.tree_state.specs.Shown.{ShowsSet}
 use Rattle.tree_state.specs.Below.{IsMarked, IsDecidedFor}
 use Rattle.tree_state.proofs.Forest.{some_up-suc, some_up-zero, some_up-root}
@@ -20,19 +20,19 @@ use Rattle.tree_state.proofs.Trees.{steps_up, steps_up-suc, steps_up-longer, met
 -- ---- one step up
 
 -- The number of steps from a router up to the root.
-pub height : GrowingView → ℕ → ℕ
+pub height : TreeView → ℕ → ℕ
 height tree r = steps_up (up_of tree) (root_of tree.net) tree.net.routers r
 
 -- a cut tree is hung
-hung_in : (tree : GrowingView) → HoldsCutTree tree → IsHung tree.net (root_of tree.net) (up_of tree)
+hung_in : (tree : TreeView) → HoldsCutTree tree → IsHung tree.net (root_of tree.net) (up_of tree)
 hung_in tree holds = hung_of tree.net (root_of tree.net) (up_of tree) (width_of tree) holds
 
 -- its root hangs from itself
-top_in : (tree : GrowingView) → HoldsCutTree tree → up_of tree (root_of tree.net) ≡ root_of tree.net
+top_in : (tree : TreeView) → HoldsCutTree tree → up_of tree (root_of tree.net) ≡ root_of tree.net
 top_in tree holds = root_hangs tree.net (root_of tree.net) (up_of tree) (hung_in tree holds)
 
 -- every router is below the root
-below-root : (tree : GrowingView) → HoldsCutTree tree → (r : ℕ) → r < tree.net.routers
+below-root : (tree : TreeView) → HoldsCutTree tree → (r : ℕ) → r < tree.net.routers
     → below tree.net.routers (up_of tree) (root_of tree.net) r ≡ true
 below-root tree holds r low =
     meets_root_from tree.net (root_of tree.net) (up_of tree) (hung_in tree holds) r low (holds.up_is r low)
@@ -50,7 +50,7 @@ some_up-met P up root top lacks (suc k) r met = elim (cases_Bool (r == root)) [
 ]
 
 -- the router above one is a step nearer to the root
-pub height-up : (tree : GrowingView) → HoldsCutTree tree → (r : ℕ) → r < tree.net.routers → r ≢ root_of tree.net
+pub height-up : (tree : TreeView) → HoldsCutTree tree → (r : ℕ) → r < tree.net.routers → r ≢ root_of tree.net
     → height tree (up_of tree r) < height tree r
 unfolding height
 height-up tree holds r low not_root = omega (
@@ -60,7 +60,7 @@ height-up tree holds r low not_root = omega (
 )
 
 -- below a router other than the root are it and what hangs from a router below it
-below-suc : (tree : GrowingView) → HoldsCutTree tree → (c r : ℕ) → c ≢ root_of tree.net → r < tree.net.routers
+below-suc : (tree : TreeView) → HoldsCutTree tree → (c r : ℕ) → c ≢ root_of tree.net → r < tree.net.routers
     → below tree.net.routers (up_of tree) c r
     ≡ ((r == c) || below tree.net.routers (up_of tree) c (up_of tree r))
 below-suc tree holds c r below_top low =
@@ -69,7 +69,7 @@ below-suc tree holds c r below_top low =
     ∙ some_up-suc (λ j. j == c) (up_of tree) tree.net.routers r
 
 -- a router other than c and the root is below c where the router above it is
-pub below-up : (tree : GrowingView) → HoldsCutTree tree → (c r : ℕ) → r < tree.net.routers → r ≢ root_of tree.net
+pub below-up : (tree : TreeView) → HoldsCutTree tree → (c r : ℕ) → r < tree.net.routers → r ≢ root_of tree.net
     → r ≢ c → below tree.net.routers (up_of tree) c r ≡ below tree.net.routers (up_of tree) c (up_of tree r)
 below-up tree holds c r low not_root other = elim (cases_eq c (root_of tree.net)) [
   | inl top ↦ rw (top, below-root tree holds r low)
@@ -104,7 +104,7 @@ length-put_if : (b : Bool) (inside : List Bool) (r : ℕ) → length (put_if b i
 length-put_if b inside r = grind (arith, cases_Bool b, length-set inside r true)
 
 -- marks stay marks
-pub marked_more : (tree : GrowingView) (decided inside : List Bool) (r : ℕ) (b : Bool) → IsMarked tree decided inside
+pub marked_more : (tree : TreeView) (decided inside : List Bool) (r : ℕ) (b : Bool) → IsMarked tree decided inside
     → r < tree.net.routers → IsMarked tree (set decided r true) (put_if b inside r)
 marked_more tree decided inside r b marked low = record {
   decided_size = length-set decided r true ∙ marked.decided_size;
@@ -124,7 +124,7 @@ inside_there inside r q true other = get_or-set_other inside r q true false othe
 inside_there inside r q false other = refl
 
 -- one router more is decided rightly
-pub decided_more : (tree : GrowingView) (c : ℕ) (decided inside : List Bool) (r : ℕ) (b : Bool)
+pub decided_more : (tree : TreeView) (c : ℕ) (decided inside : List Bool) (r : ℕ) (b : Bool)
     → IsMarked tree decided inside → IsDecidedFor tree c decided inside → r < tree.net.routers
     → set_of decided r ≡ false → b ≡ below tree.net.routers (up_of tree) c r
     → IsDecidedFor tree c (set decided r true) (put_if b inside r)
@@ -159,7 +159,7 @@ length-alone : (n c : ℕ) → length (alone n c) ≡ n
 length-alone n c = length-set (replicate n false) c true ∙ length-replicate n false
 
 -- at first c and the root are decided
-pub marked_start : (tree : GrowingView) → HoldsCutTree tree → (c : ℕ)
+pub marked_start : (tree : TreeView) → HoldsCutTree tree → (c : ℕ)
     → IsMarked tree (set (alone tree.net.routers c) (root_of tree.net) true) (alone tree.net.routers c)
 marked_start tree holds c = record {
   decided_size = length-set (alone tree.net.routers c) (root_of tree.net) true ∙ length-alone tree.net.routers c;
@@ -169,13 +169,13 @@ marked_start tree holds c = record {
 }
 
 -- what is decided stays so once the root is decided too
-root_stays : (tree : GrowingView) → HoldsCutTree tree → (c r : ℕ) → set_of (alone tree.net.routers c) r ≡ true
+root_stays : (tree : TreeView) → HoldsCutTree tree → (c r : ℕ) → set_of (alone tree.net.routers c) r ≡ true
     → set_of (set (alone tree.net.routers c) (root_of tree.net) true) r ≡ true
 root_stays tree holds c r has = put_stays (alone tree.net.routers c) (root_of tree.net) r
     (omega (arith, length-alone tree.net.routers c, terminal-lt tree.net (root_of tree.net) holds.root_is)) has
 
 -- what is inside at first
-start_inside : (tree : GrowingView) → HoldsCutTree tree → (c : ℕ) → c < tree.net.routers → (r : ℕ)
+start_inside : (tree : TreeView) → HoldsCutTree tree → (c : ℕ) → c < tree.net.routers → (r : ℕ)
     → r < tree.net.routers → (r ≡ c) ⊎ (r ≢ c) → (r ≡ root_of tree.net) ⊎ (r ≢ root_of tree.net)
     → set_of (alone tree.net.routers c) r
     ≡ (set_of (set (alone tree.net.routers c) (root_of tree.net) true) r
@@ -204,7 +204,7 @@ start_inside tree holds c low r r_low (inr other) (inr below_top) =
     ) refl
 
 -- and rightly
-pub decided_start : (tree : GrowingView) → HoldsCutTree tree → (c : ℕ) → c < tree.net.routers
+pub decided_start : (tree : TreeView) → HoldsCutTree tree → (c : ℕ) → c < tree.net.routers
     → IsDecidedFor tree c (set (alone tree.net.routers c) (root_of tree.net) true) (alone tree.net.routers c)
 decided_start tree holds c low = record {
   child = root_stays tree holds c c (alone-same tree.net.routers c low);
@@ -213,7 +213,7 @@ decided_start tree holds c low = record {
 }
 
 -- once all routers are decided, those below c are shown
-pub decided_shows : (tree : GrowingView) (c : ℕ) (decided inside : List Bool) → IsMarked tree decided inside
+pub decided_shows : (tree : TreeView) (c : ℕ) (decided inside : List Bool) → IsMarked tree decided inside
     → IsDecidedFor tree c decided inside → ((r : ℕ) → r < tree.net.routers → set_of decided r ≡ true)
     → ShowsSet tree.net.routers (below tree.net.routers (up_of tree) c) inside
 decided_shows tree c decided inside marked right all = record {

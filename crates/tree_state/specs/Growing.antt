@@ -1,28 +1,9 @@
--- A growing tree as contracts see it, and what its type keeps.
+-- What the type of a growing tree keeps.
 use Rattle.std.specs.Prelude.{◌≡◌, ℕ, ◌<◌, ◌≤◌, Bool, false, List, length, slice_index, slice_index_or}
 use Rattle.cut_model.specs.Net.{Net, IsInLimits}
 use Rattle.cut_model.specs.Terminals.{root_of}
 use Rattle.tree_state.specs.declared.entry.Entry.{Entry}
-use Rattle.tree_state.specs.Tables.{Table}
 use Rattle.tree_state.specs.History.{tables, entered, IsLegal}
-use Rattle.tree_state.specs.Trees.{IsCutTree}
-
--- A network, and the entries of the commits so far, the oldest first.
-pub record GrowingView : Type 0 where
-  pub net : Net
-  pub history : List Entry
-
--- What is above each router in the tree of its history.
-abbrev pub up_of : GrowingView → Table
-up_of tree = (tables (root_of tree.net) tree.history).up
-
--- The width of the edge above each router in that tree.
-abbrev pub width_of : GrowingView → Table
-width_of tree = (tables (root_of tree.net) tree.history).width
-
--- That tree is a cut tree of its network.
-abbrev pub HoldsCutTree : GrowingView → Type 0
-HoldsCutTree tree = IsCutTree tree.net (root_of tree.net) (up_of tree) (width_of tree)
 
 -- The history is legal, and the lists have for each router what its tables say, and whether it is entered.
 pub record IsGrown (net : Net) (up width : List ℕ) (done : List Bool) (history : List Entry) : Type 0 where

@@ -4,6 +4,7 @@ pub mod History
 pub mod Trees
 pub mod Shown
 pub mod Paths
+pub mod Views
 pub mod Laws
 pub mod Growing
 pub mod Below

@@ -4,7 +4,7 @@ ghost use Rattle.std.specs.Prelude.{◌≡◌, ◌<◌, ℕ, true, slice_set, le
 ghost use Rattle.cut_model.specs.Cuts.{set_of};
 ghost use Rattle.tree_state.specs.Tables.{below};
 ghost use Rattle.tree_state.specs.Shown.{ShowsSet};
-ghost use Rattle.tree_state.specs.Growing.{up_of, HoldsCutTree};
+ghost use Rattle.tree_state.specs.Views.{up_of, HoldsCutTree};
 ghost use Rattle.tree_state.specs.Below.{IsMarked, IsDecidedFor};
 
 use crate::finished::Finished;
@@ -25,11 +25,11 @@ fn decide(decided: &mut Side, inside: &mut Side, router: u32, is_below: bool)
 
 /// Whether a router is below the child: the first decided router on its way up tells.
 fn is_below(finished: &Finished, decided: &Side, inside: &Side, router: u32) -> bool
-    requires tree { HoldsCutTree finished.now }
-    requires marked { IsMarked finished.now decided.now inside.now }
-    requires router { router < finished.now.net.routers }
-    ensures { (c : ℕ) → IsDecidedFor finished.now c decided.now inside.now
-        → result ≡ below finished.now.net.routers (up_of finished.now) c router }
+    requires tree { HoldsCutTree finished.now.tree }
+    requires marked { IsMarked finished.now.tree decided.now inside.now }
+    requires router { router < finished.now.tree.net.routers }
+    ensures { (c : ℕ) → IsDecidedFor finished.now.tree c decided.now inside.now
+        → result ≡ below finished.now.tree.net.routers (up_of finished.now.tree) c router }
 {
     let mut above = router;
     while !decided.has(above) {
@@ -46,15 +46,15 @@ fn decide_way(
     router: u32,
     is_below: bool,
 )
-    requires tree { HoldsCutTree finished.now }
-    requires marked { IsMarked finished.now decided.old inside.old }
-    requires router { router < finished.now.net.routers }
-    ensures marked { IsMarked finished.now decided.new inside.new }
+    requires tree { HoldsCutTree finished.now.tree }
+    requires marked { IsMarked finished.now.tree decided.old inside.old }
+    requires router { router < finished.now.tree.net.routers }
+    ensures marked { IsMarked finished.now.tree decided.new inside.new }
     ensures router { set_of decided.new router ≡ true }
     ensures kept { (r : ℕ) → set_of decided.old r ≡ true → set_of decided.new r ≡ true }
-    ensures decided { (c : ℕ) → IsDecidedFor finished.now c decided.old inside.old
-        → is_below ≡ below finished.now.net.routers (up_of finished.now) c router
-        → IsDecidedFor finished.now c decided.new inside.new }
+    ensures decided { (c : ℕ) → IsDecidedFor finished.now.tree c decided.old inside.old
+        → is_below ≡ below finished.now.tree.net.routers (up_of finished.now.tree) c router
+        → IsDecidedFor finished.now.tree c decided.new inside.new }
 {
     let mut above = router;
     while !decided.has(above) {
@@ -66,12 +66,12 @@ fn decide_way(
 /// Decides all routers. It walks twice up from each router to the first one that is decided, and then
 /// all of that way is; so the time is proportional to the number of routers.
 fn decide_all(finished: &Finished, decided: &mut Side, inside: &mut Side)
-    requires tree { HoldsCutTree finished.now }
-    requires marked { IsMarked finished.now decided.old inside.old }
-    ensures marked { IsMarked finished.now decided.new inside.new }
-    ensures all { (r : ℕ) → r < finished.now.net.routers → set_of decided.new r ≡ true }
-    ensures decided { (c : ℕ) → IsDecidedFor finished.now c decided.old inside.old
-        → IsDecidedFor finished.now c decided.new inside.new }
+    requires tree { HoldsCutTree finished.now.tree }
+    requires marked { IsMarked finished.now.tree decided.old inside.old }
+    ensures marked { IsMarked finished.now.tree decided.new inside.new }
+    ensures all { (r : ℕ) → r < finished.now.tree.net.routers → set_of decided.new r ≡ true }
+    ensures decided { (c : ℕ) → IsDecidedFor finished.now.tree c decided.old inside.old
+        → IsDecidedFor finished.now.tree c decided.new inside.new }
 {
     for router in 0..decided.size() {
         let is_below = is_below(finished, decided, inside, router);
@@ -82,9 +82,9 @@ fn decide_all(finished: &Finished, decided: &mut Side, inside: &mut Side)
 /// The routers below one: those on whose way up it is, itself among them. Below the root are all. The
 /// time is proportional to the number of routers, however deep the tree is. It takes no memory.
 pub fn side_below(finished: &Finished, child: u32) -> Side
-    requires { child < finished.now.net.routers }
-    ensures { ShowsSet finished.now.net.routers
-        (below finished.now.net.routers (up_of finished.now) child) result }
+    requires { child < finished.now.tree.net.routers }
+    ensures { ShowsSet finished.now.tree.net.routers
+        (below finished.now.tree.net.routers (up_of finished.now.tree) child) result }
 {
     let routers = finished.net().routers();
     let mut decided = Side::empty(routers);

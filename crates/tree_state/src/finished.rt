@@ -2,7 +2,7 @@
 ghost use Rattle.std.specs.Prelude.{◌≡◌, ◌+◌, ◌<◌, Some, length, slice_get};
 ghost use Rattle.std.specs.Arc.{arc_value};
 ghost use Rattle.cut_model.specs.Terminals.{IsTerminal, terminal_count, root_of};
-ghost use Rattle.tree_state.specs.Growing.{up_of, width_of, HoldsCutTree};
+ghost use Rattle.tree_state.specs.Views.{up_of, width_of, HoldsCutTree};
 ghost use Rattle.tree_state.specs.History.{IsComplete};
 
 use crate::entry::Entry;
@@ -14,19 +14,19 @@ use std::sync::Arc;
 /// A cut tree, that of a complete history: every terminal but the root was committed. An edge leads
 /// from each other router up to the one above it. What is below its lower end is a least cut of its
 /// two ends, and costs its width. That a router hangs from another says no more than that, and not
-/// that a link joins the two. Contracts see a `GrowingView`.
+/// that a link joins the two. Contracts see a `FinishedView`.
 #[derive(Drop)]
 pub struct Finished {
     grown: Growing,
 }
 
 impl Model for Finished {
-    ghost use Rattle.tree_state.specs.Growing.{GrowingView, HoldsCutTree};
+    ghost use Rattle.tree_state.specs.Views.{FinishedView, HoldsCutTree};
     ghost use Rattle.tree_state.specs.History.{IsComplete};
 
-    ghost Value = { GrowingView };
+    ghost Value = { FinishedView };
 
-    ghost view = { λ f. f.grown };
+    ghost view = { λ f. record { tree = f.grown } };
 
     ghost invariant = { λ f. IsComplete f.grown.net f.grown.history × HoldsCutTree f.grown };
 }
@@ -36,25 +36,25 @@ impl Finished {
     pub fn hold(grown: Growing) -> Finished
         requires complete { IsComplete grown.net grown.history }
         requires tree { HoldsCutTree grown }
-        ensures { result ≡ grown }
+        ensures { result.tree ≡ grown }
     {
         Finished { grown }
     }
 
     /// The network.
     pub fn net(&self) -> &Arc<Network>
-        ensures value { arc_value result.now ≡ self.now.net }
-        ensures complete { IsComplete self.now.net self.now.history }
-        ensures tree { HoldsCutTree self.now }
+        ensures value { arc_value result.now ≡ self.now.tree.net }
+        ensures complete { IsComplete self.now.tree.net self.now.tree.history }
+        ensures tree { HoldsCutTree self.now.tree }
     {
         self.grown.net()
     }
 
     /// The root: the terminal of smallest number.
     pub fn root(&self) -> u32
-        ensures value { result ≡ root_of self.now.net }
-        ensures terminal { IsTerminal self.now.net result }
-        ensures within { result < self.now.net.routers }
+        ensures value { result ≡ root_of self.now.tree.net }
+        ensures terminal { IsTerminal self.now.tree.net result }
+        ensures within { result < self.now.tree.net.routers }
     {
         self.grown.net().root()
     }
@@ -62,9 +62,9 @@ impl Finished {
     /// The router above `c`.
     #[inline]
     pub fn up(&self, c: u32) -> u32
-        requires { c < self.now.net.routers }
-        ensures value { result ≡ up_of self.now c }
-        ensures within { result < self.now.net.routers }
+        requires { c < self.now.tree.net.routers }
+        ensures value { result ≡ up_of self.now.tree c }
+        ensures within { result < self.now.tree.net.routers }
     {
         self.grown.neighbour(c)
     }
@@ -72,24 +72,24 @@ impl Finished {
     /// The width of the edge from `c` to the router above it: what the cut between them costs.
     #[inline]
     pub fn width(&self, c: u32) -> u64
-        requires { c < self.now.net.routers }
-        ensures { result ≡ width_of self.now c }
+        requires { c < self.now.tree.net.routers }
+        ensures { result ≡ width_of self.now.tree c }
     {
         self.grown.width(c)
     }
 
     /// How many commits made the tree, one for each terminal but the root.
     pub fn commits(&self) -> u32
-        ensures value { result ≡ length self.now.history }
-        ensures all { result + 1 ≡ terminal_count self.now.net }
+        ensures value { result ≡ length self.now.tree.history }
+        ensures all { result + 1 ≡ terminal_count self.now.tree.net }
     {
         self.grown.commits()
     }
 
     /// The entry of the commit at a place, counted from 0.
     pub fn entry(&self, i: u32) -> &Entry
-        requires { i < length self.now.history }
-        ensures { slice_get self.now.history i ≡ Some result.now }
+        requires { i < length self.now.tree.history }
+        ensures { slice_get self.now.tree.history i ≡ Some result.now }
     {
         self.grown.entry(i)
     }

@@ -18,7 +18,7 @@ const ROOM: usize = 1024;
 
 /// A cut tree of a network while it grows by Gusfield's method: the two tables, and the history of
 /// the commits that made them. Its type keeps that the tables are those of the history, and that
-/// the history is legal. All memory is taken when it is made. Contracts see a `GrowingView`.
+/// the history is legal. All memory is taken when it is made. Contracts see a `TreeView`.
 #[derive(Drop)]
 pub struct Growing {
     net: Arc<Network>,
@@ -31,9 +31,10 @@ pub struct Growing {
 impl Model for Growing {
     ghost use Rattle.std.specs.Prelude.{vec_capacity};
     ghost use Rattle.std.specs.Arc.{arc_value};
-    ghost use Rattle.tree_state.specs.Growing.{GrowingView, IsGrown, HasRoom};
+    ghost use Rattle.tree_state.specs.Growing.{IsGrown, HasRoom};
+    ghost use Rattle.tree_state.specs.Views.{TreeView};
 
-    ghost Value = { GrowingView };
+    ghost Value = { TreeView };
 
     ghost view = { λ g. record { net = arc_value g.net; history = g.history.items } };
 

@@ -4,7 +4,7 @@ use Rattle.std.specs.declared.option.Option.{Option}
 use Rattle.cut_model.specs.Net.{Net}
 use Rattle.network_text.specs.Sheets.{SheetView}
 use Rattle.path_minimum.specs.Ladders.{IsLadderOf}
-use Rattle.tree_state.specs.Growing.{GrowingView, HoldsCutTree}
+use Rattle.tree_state.specs.Views.{TreeView, HoldsCutTree}
 use Rattle.tree_state.specs.History.{IsComplete}
 use Rattle.tree_state.specs.declared.entry.Entry.{Entry}
 
@@ -14,12 +14,12 @@ pub record RecordView : Type 0 where
   pub history : List Entry
 
 -- The tree of a record: that of its history over its own network.
-abbrev pub tree_of : RecordView → GrowingView
+abbrev pub tree_of : RecordView → TreeView
 tree_of seen = record { net = seen.sheet.net; history = seen.history }
 
 -- A network, a finished tree and a ladder belong together: the tree is one of this network, with a complete run and
 -- least cuts, and the ladder was made for it.
-pub record BelongTogether (net : Net) (tree : GrowingView) (ladder : List ℕ) : Type 0 where
+pub record BelongTogether (net : Net) (tree : TreeView) (ladder : List ℕ) : Type 0 where
   pub same : tree.net ≡ net
   pub complete : IsComplete tree.net tree.history
   pub cuts : HoldsCutTree tree

@@ -2,7 +2,7 @@
 ghost use Rattle.std.specs.Prelude.{◌≡◌, IfOk};
 ghost use Rattle.std.specs.Arc.{arc_value};
 ghost use Rattle.path_minimum.specs.Ladders.{IsLadderOf};
-ghost use Rattle.tree_state.specs.Growing.{HoldsCutTree};
+ghost use Rattle.tree_state.specs.Views.{HoldsCutTree};
 ghost use Rattle.tree_state.specs.History.{IsComplete};
 ghost use Rattle.tree_versions.specs.Records.{tree_of};
 
@@ -28,9 +28,9 @@ impl Model for Record {
 
     ghost Value = { RecordView };
 
-    ghost view = { λ r. record { sheet = r.sheet; history = r.finished.history } };
+    ghost view = { λ r. record { sheet = r.sheet; history = r.finished.tree.history } };
 
-    ghost invariant = { λ r. BelongTogether r.sheet.net r.finished r.ladder };
+    ghost invariant = { λ r. BelongTogether r.sheet.net r.finished.tree r.ladder };
 }
 
 impl Record {
@@ -39,8 +39,8 @@ impl Record {
     /// # Errors
     /// [`NoMemory`] where the memory of a record can't be had.
     pub fn make(alloc: Global, sheet: Sheet, finished: Finished) -> Result<Arc<Record>, NoMemory>
-        requires same { finished.net ≡ sheet.net }
-        ensures { IfOk result (λ made. arc_value made ≡ record { sheet = sheet; history = finished.history }) }
+        requires same { finished.tree.net ≡ sheet.net }
+        ensures { IfOk result (λ made. arc_value made ≡ record { sheet = sheet; history = finished.tree.history }) }
     {
         let ladder = Ladder::make(alloc, &finished)?;
         // The tree is one of the sheet's network: what its type keeps holds of that.
@@ -64,7 +64,7 @@ impl Record {
     /// The finished run over the network of the sheet, and its tree.
     #[inline]
     pub fn finished(&self) -> &Finished
-        ensures value { result.now ≡ tree_of self.now }
+        ensures value { result.now.tree ≡ tree_of self.now }
         ensures complete { IsComplete self.now.sheet.net self.now.history }
         ensures tree { HoldsCutTree (tree_of self.now) }
     {

@@ -5,9 +5,9 @@ use Rattle.path_minimum.proofs.ladder.depth_by_known.Given as goal
 -- so many steps lead to the router, whose depth is that much smaller
 abbrev pub invariant-loop-at : goal.invariant-loop-at
 invariant-loop-at l = record {
-  within : l.at < l.finished.net.routers;
-  sum : l.steps + depth_of l.finished l.at ≡ depth_of l.finished l.router;
+  within : l.at < l.finished.tree.net.routers;
+  sum : l.steps + depth_of l.finished.tree l.at ≡ depth_of l.finished.tree l.router;
 }
 
 abbrev pub decreases-loop-at : goal.decreases-loop-at
-decreases-loop-at l = depth_of l.finished l.at
+decreases-loop-at l = depth_of l.finished.tree l.at

@@ -13,7 +13,7 @@ loop-router-init c = record {
         c.net.ensures.value,
         c.root-root.ensures.value,
       )
-      (known-root c.args.finished.now c.args.depths.now c.net.ensures.tree
+      (known-root c.args.finished.now.tree c.args.depths.now c.net.ensures.tree
       (rw (← c.root-root.ensures.value) c.root-root.ensures.within) c.requires);
   before = λ r low. absurd (omega arith);
 }

@@ -6,6 +6,6 @@ use Rattle.path_minimum.proofs.ladder.note_depths.Given as goal
 -- the routers before this one are known
 abbrev pub invariant-loop-router : goal.invariant-loop-router
 invariant-loop-router l = record {
-  known : AreKnown l.finished l.known l.depths;
+  known : AreKnown l.finished.tree l.known l.depths;
   before : (c : ℕ) → c < l.router → set_of l.known c ≡ true;
 }

@@ -10,20 +10,20 @@ use Rattle.path_minimum.proofs.least_edge.least_on_path.Goals as goal
 
 pub deeper_first-deeper-requires-clause-x : goal.deeper_first-deeper-requires-clause-x
 deeper_first-deeper-requires-clause-x g c =
-    omega (arith, c.requires.ladder.size, terminal-lt c.args.finished.now.net c.args.a c.requires.a)
+    omega (arith, c.requires.ladder.size, terminal-lt c.args.finished.now.tree.net c.args.a c.requires.a)
 
 pub deeper_first-deeper-requires-clause-y : goal.deeper_first-deeper-requires-clause-y
 deeper_first-deeper-requires-clause-y g c =
-    omega (arith, c.requires.ladder.size, terminal-lt c.args.finished.now.net c.args.b c.requires.b)
+    omega (arith, c.requires.ladder.size, terminal-lt c.args.finished.now.tree.net c.args.b c.requires.b)
 
 pub edge_above-least-requires : goal.edge_above-least-requires
-edge_above-least-requires g c = terminal-lt c.args.finished.now.net _
-    (either-first (IsTerminal c.args.finished.now.net) c.deeper_first-deeper.result c.args.a c.args.b c.requires.a
+edge_above-least-requires g c = terminal-lt c.args.finished.now.tree.net _
+    (either-first (IsTerminal c.args.finished.now.tree.net) c.deeper_first-deeper.result c.args.a c.args.b c.requires.a
     c.requires.b c.deeper_first-deeper.ensures.either)
 
 pub loop-x-init : goal.loop-x-init
 loop-x-init g c =
-    let tree = c.args.finished.now in
+    let tree = c.args.finished.now.tree in
     let pair = c.deeper_first-deeper.result in
     let either = c.deeper_first-deeper.ensures.either in
     let low : depth_of tree pair.1 ≤ depth_of tree pair.0 =
@@ -42,29 +42,29 @@ pub deeper_first-low-requires-clause-x : goal.deeper_first-low-requires-clause-x
 deeper_first-low-requires-clause-x g c = omega (
   arith,
   c.requires.ladder.size,
-  terminal-lt c.args.finished.now.net c.loop-x.x c.loop-x.invariant.passed.x_is,
+  terminal-lt c.args.finished.now.tree.net c.loop-x.x c.loop-x.invariant.passed.x_is,
 )
 
 pub deeper_first-low-requires-clause-y : goal.deeper_first-low-requires-clause-y
 deeper_first-low-requires-clause-y g c = omega (
   arith,
   c.requires.ladder.size,
-  terminal-lt c.args.finished.now.net c.loop-x.y c.loop-x.invariant.passed.y_is,
+  terminal-lt c.args.finished.now.tree.net c.loop-x.y c.loop-x.invariant.passed.y_is,
 )
 
 pub edge_above-requires : goal.edge_above-requires
-edge_above-requires g c = terminal-lt c.args.finished.now.net _
-    (either-passed c.args.finished.now c.net.ensures.tree c.args.a c.args.b c.loop-x.x c.loop-x.y c.loop-x.least
+edge_above-requires g c = terminal-lt c.args.finished.now.tree.net _
+    (either-passed c.args.finished.now.tree c.net.ensures.tree c.args.a c.args.b c.loop-x.x c.loop-x.y c.loop-x.least
     c.deeper_first-low.result c.loop-x.invariant.passed c.deeper_first-low.ensures.either).x_is
 
 pub up-x-requires : goal.up-x-requires
-up-x-requires g c = terminal-lt c.args.finished.now.net _
-    (either-passed c.args.finished.now c.net.ensures.tree c.args.a c.args.b c.loop-x.x c.loop-x.y c.loop-x.least
+up-x-requires g c = terminal-lt c.args.finished.now.tree.net _
+    (either-passed c.args.finished.now.tree c.net.ensures.tree c.args.a c.args.b c.loop-x.x c.loop-x.y c.loop-x.least
     c.deeper_first-low.result c.loop-x.invariant.passed c.deeper_first-low.ensures.either).x_is
 
 pub loop-x-smaller : goal.loop-x-smaller
 loop-x-smaller g c =
-    let tree = c.args.finished.now in
+    let tree = c.args.finished.now.tree in
     let pair = c.deeper_first-low.result in
     let either = c.deeper_first-low.ensures.either in
     let before : HasPassed tree c.args.a c.args.b pair.0 pair.1 c.loop-x.least =
@@ -82,7 +82,7 @@ loop-x-smaller g c =
 
 pub loop-x-preserved : goal.loop-x-preserved
 loop-x-preserved g c =
-    let tree = c.args.finished.now in
+    let tree = c.args.finished.now.tree in
     let pair = c.deeper_first-low.result in
     let either = c.deeper_first-low.ensures.either in
     let before : HasPassed tree c.args.a c.args.b pair.0 pair.1 c.loop-x.least =
@@ -102,7 +102,7 @@ loop-x-preserved g c =
 
 pub returns-clause-least : goal.returns-clause-least
 returns-clause-least g c =
-    let tree = c.args.finished.now in
+    let tree = c.args.finished.now.tree in
     let edge = passed-all tree c.net.ensures.tree c.args.a c.args.b c.loop-x.x c.loop-x.y c.loop-x.least
     c.loop-x.invariant.passed c.loop-x-test.false in
     rw c.loop-x.invariant.passed.edge
@@ -111,4 +111,4 @@ returns-clause-least g c =
 
 pub returns-clause-within : goal.returns-clause-within
 returns-clause-within g c =
-    terminal-lt c.args.finished.now.net c.loop-x.least.child c.loop-x.invariant.passed.on_path.terminal
+    terminal-lt c.args.finished.now.tree.net c.loop-x.least.child c.loop-x.invariant.passed.on_path.terminal

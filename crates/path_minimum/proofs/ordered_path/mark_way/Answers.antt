@@ -2,7 +2,7 @@ use Rattle.std.proofs.Common.{◌≡◌, ◌≢◌, suc, true, sym, ◌∙◌, a
 use Rattle.std.proofs.lemmas.List.{length-set, get_or-set_other}
 use Rattle.cut_model.specs.Terminals.{root_of}
 use Rattle.cut_model.proofs.Terminals.{terminal-lt}
-use Rattle.tree_state.specs.Growing.{up_of}
+use Rattle.tree_state.specs.Views.{up_of}
 use Rattle.path_minimum.specs.Ladders.{depth_of}
 use Rattle.path_minimum.proofs.Depths.{depth_of-suc}
 use Rattle.path_minimum.proofs.Marks.{marked-more, marked-all}
@@ -12,24 +12,24 @@ pub put-requires : goal.put-requires
 put-requires c = omega (
   arith,
   c.loop-at.invariant.size,
-  terminal-lt c.args.finished.now.net c.loop-at.at c.loop-at.invariant.at_is,
+  terminal-lt c.args.finished.now.tree.net c.loop-at.at c.loop-at.invariant.at_is,
 )
 
 pub up-at-requires : goal.up-at-requires
-up-at-requires c = terminal-lt c.args.finished.now.net c.loop-at.at c.loop-at.invariant.at_is
+up-at-requires c = terminal-lt c.args.finished.now.tree.net c.loop-at.at c.loop-at.invariant.at_is
 
 pub loop-at-smaller : goal.loop-at-smaller
 loop-at-smaller c =
-    let step : depth_of c.args.finished.now c.loop-at.at
-    ≡ suc (depth_of c.args.finished.now (up_of c.args.finished.now c.loop-at.at)) =
-    depth_of-suc c.args.finished.now c.net.ensures.tree c.loop-at.at
-    (terminal-lt c.args.finished.now.net c.loop-at.at c.loop-at.invariant.at_is)
+    let step : depth_of c.args.finished.now.tree c.loop-at.at
+    ≡ suc (depth_of c.args.finished.now.tree (up_of c.args.finished.now.tree c.loop-at.at)) =
+    depth_of-suc c.args.finished.now.tree c.net.ensures.tree c.loop-at.at
+    (terminal-lt c.args.finished.now.tree.net c.loop-at.at c.loop-at.invariant.at_is)
     (λ e. c.loop-at-test.true (e ∙ sym c.root-root.ensures.value)) in
     rw c.up-at.ensures.value (omega arith)
 
 pub loop-at-preserved : goal.loop-at-preserved
 loop-at-preserved c =
-    let tree = c.args.finished.now in
+    let tree = c.args.finished.now.tree in
     let before = c.loop-at.invariant in
     let not_root : c.loop-at.at ≢ root_of tree.net =
     λ e. c.loop-at-test.true (e ∙ sym c.root-root.ensures.value) in
@@ -47,7 +47,7 @@ loop-at-preserved c =
 
 pub returns-clause-marks : goal.returns-clause-marks
 returns-clause-marks c =
-    let tree = c.args.finished.now in
+    let tree = c.args.finished.now.tree in
     let here : c.loop-at.at ≡ root_of tree.net = c.loop-at-test.false ∙ c.root-root.ensures.value in
     rw (c.put-2.ensures, c.root-root.ensures.value)
     (marked-all tree c.net.ensures.tree c.loop-at.marks c.args.router c.requires c.loop-at.invariant.size

@@ -1,7 +1,7 @@
 use Rattle.std.proofs.Common.{◌≡◌, suc, ◌<◌, false, sym, ◌∙◌, ap, arith}
 use Rattle.std.proofs.lemmas.Bool.{false≢true}
 use Rattle.cut_model.proofs.Terminals.{terminal-lt}
-use Rattle.tree_state.specs.Growing.{up_of}
+use Rattle.tree_state.specs.Views.{up_of}
 use Rattle.path_minimum.specs.Ladders.{depth_of}
 use Rattle.path_minimum.proofs.Depths.{tree_in, depth_of-suc}
 use Rattle.path_minimum.proofs.Marks.{below_in, shared-more, shared-all}
@@ -11,15 +11,15 @@ pub has-requires : goal.has-requires
 has-requires c = omega (
   arith,
   c.mark_way-marks.ensures.marks.size,
-  terminal-lt c.args.finished.now.net c.loop-marks.at c.loop-marks.invariant.at_is,
+  terminal-lt c.args.finished.now.tree.net c.loop-marks.at c.loop-marks.invariant.at_is,
 )
 
 pub up-at-requires : goal.up-at-requires
-up-at-requires c = terminal-lt c.args.finished.now.net c.loop-marks.at c.loop-marks.invariant.at_is
+up-at-requires c = terminal-lt c.args.finished.now.tree.net c.loop-marks.at c.loop-marks.invariant.at_is
 
 pub loop-marks-smaller : goal.loop-marks-smaller
 loop-marks-smaller c =
-    let tree = c.args.finished.now in
+    let tree = c.args.finished.now.tree in
     let low : c.loop-marks.at < tree.net.routers = terminal-lt tree.net c.loop-marks.at c.loop-marks.invariant.at_is in
     let lacks : below_in tree c.loop-marks.at c.args.a ≡ false =
     sym (c.mark_way-marks.ensures.marks.shows c.loop-marks.at low) ∙ (sym c.has.ensures ∙ c.loop-marks-test.true) in
@@ -31,7 +31,7 @@ loop-marks-smaller c =
 
 pub loop-marks-preserved : goal.loop-marks-preserved
 loop-marks-preserved c =
-    let tree = c.args.finished.now in
+    let tree = c.args.finished.now.tree in
     let before = c.loop-marks.invariant in
     let low : c.loop-marks.at < tree.net.routers = terminal-lt tree.net c.loop-marks.at before.at_is in
     let lacks : below_in tree c.loop-marks.at c.args.a ≡ false =
@@ -44,7 +44,7 @@ loop-marks-preserved c =
 
 pub returns-clause-meeting : goal.returns-clause-meeting
 returns-clause-meeting c =
-    let tree = c.args.finished.now in
+    let tree = c.args.finished.now.tree in
     let low : c.loop-marks.at < tree.net.routers = terminal-lt tree.net c.loop-marks.at c.loop-marks.invariant.at_is in
     shared-all tree c.mark_way-marks.ensures.tree c.args.a c.args.b c.loop-marks.at c.requires.a
     c.loop-marks.invariant.at_is

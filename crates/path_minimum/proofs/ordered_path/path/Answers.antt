@@ -1,5 +1,5 @@
 use Rattle.std.proofs.Common.{◌≡◌, ℕ, ◌++◌, List, length, take, drop, reverse, sym, ◌∙◌, ap, arith}
-use Rattle.tree_state.specs.Growing.{up_of}
+use Rattle.tree_state.specs.Views.{up_of}
 use Rattle.path_minimum.specs.Paths.{IsOrderedPath}
 use Rattle.path_minimum.specs.Walks.{way_between}
 use Rattle.path_minimum.proofs.Depths.{tree_in, depth_of-lt}
@@ -9,23 +9,23 @@ use Rattle.path_minimum.proofs.ordered_path.path.Goals as goal
 
 pub push_way-requires-clause-above : goal.push_way-requires-clause-above
 push_way-requires-clause-above c =
-    meeting-above c.args.finished.now.net (tree_in c.args.finished.now c.meeting_of-meeting.ensures.tree) c.args.a
+    meeting-above c.args.finished.now.tree.net (tree_in c.args.finished.now.tree c.meeting_of-meeting.ensures.tree) c.args.a
     c.args.b c.meeting_of-meeting.result c.meeting_of-meeting.ensures.meeting
 
 pub push_way-requires-clause-room : goal.push_way-requires-clause-room
 push_way-requires-clause-room c =
-    omega (arith, c.clear.ensures.len, depth_of-lt c.args.finished.now c.meeting_of-meeting.ensures.tree c.args.a)
+    omega (arith, c.clear.ensures.len, depth_of-lt c.args.finished.now.tree c.meeting_of-meeting.ensures.tree c.args.a)
 
 pub push_way-requires-2-clause-above : goal.push_way-requires-2-clause-above
 push_way-requires-2-clause-above c =
-    meeting-above c.args.finished.now.net (tree_in c.args.finished.now c.meeting_of-meeting.ensures.tree) c.args.b
+    meeting-above c.args.finished.now.tree.net (tree_in c.args.finished.now.tree c.meeting_of-meeting.ensures.tree) c.args.b
     c.args.a c.meeting_of-meeting.result
-    (meeting-turned c.args.finished.now.net (up_of c.args.finished.now) c.args.a c.args.b c.meeting_of-meeting.result
+    (meeting-turned c.args.finished.now.tree.net (up_of c.args.finished.now.tree) c.args.a c.args.b c.meeting_of-meeting.result
     c.meeting_of-meeting.ensures.meeting)
 
 pub push_way-requires-2-clause-room : goal.push_way-requires-2-clause-room
 push_way-requires-2-clause-room c =
-    let tree = c.args.finished.now in
+    let tree = c.args.finished.now.tree in
     let m = c.meeting_of-meeting.result in
     let items : c.push_way.new.children.items ≡ way_between tree c.args.a m =
     c.push_way.ensures.way ∙ ap (λ (front : List ℕ). front ++ way_between tree c.args.a m) c.clear.ensures.items in
@@ -40,7 +40,7 @@ push_way-requires-2-clause-room c =
 
 pub returns : goal.returns
 returns c =
-    let tree = c.args.finished.now in
+    let tree = c.args.finished.now.tree in
     let m = c.meeting_of-meeting.result in
     let holds = c.meeting_of-meeting.ensures.tree in
     let left : take c.push_way-2.new.children.len

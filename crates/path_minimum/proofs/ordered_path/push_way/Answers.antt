@@ -1,7 +1,7 @@
 use Rattle.std.proofs.Common.{◌≡◌, ℕ, suc, ◌<◌, ◌++◌, ◌∷◌, [], List, sym, ◌∙◌, ap, arith}
 use Rattle.std.proofs.lemmas.List.{append_assoc, append-nil}
 use Rattle.cut_model.proofs.Terminals.{terminal-lt}
-use Rattle.tree_state.specs.Growing.{up_of}
+use Rattle.tree_state.specs.Views.{up_of}
 use Rattle.path_minimum.specs.Ladders.{depth_of}
 use Rattle.path_minimum.specs.Walks.{way_between}
 use Rattle.path_minimum.proofs.Depths.{tree_in, depth_of-suc, depth_of-root}
@@ -11,16 +11,16 @@ use Rattle.path_minimum.proofs.ordered_path.push_way.Goals as goal
 pub push_reserved-requires : goal.push_reserved-requires
 push_reserved-requires c = omega (
   arith,
-  below-deeper c.args.finished.now.net (tree_in c.args.finished.now c.requires.tree) c.args.to c.loop-at.at
+  below-deeper c.args.finished.now.tree.net (tree_in c.args.finished.now.tree c.requires.tree) c.args.to c.loop-at.at
       c.loop-at.invariant.at_is c.loop-at.invariant.above c.loop-at-test.true,
 )
 
 pub up-at-requires : goal.up-at-requires
-up-at-requires c = terminal-lt c.args.finished.now.net c.loop-at.at c.loop-at.invariant.at_is
+up-at-requires c = terminal-lt c.args.finished.now.tree.net c.loop-at.at c.loop-at.invariant.at_is
 
 pub loop-at-smaller : goal.loop-at-smaller
 loop-at-smaller c =
-    let tree = c.args.finished.now in
+    let tree = c.args.finished.now.tree in
     let deeper : depth_of tree c.args.to < depth_of tree c.loop-at.at =
     below-deeper tree.net (tree_in tree c.requires.tree) c.args.to c.loop-at.at c.loop-at.invariant.at_is
     c.loop-at.invariant.above c.loop-at-test.true in
@@ -32,7 +32,7 @@ loop-at-smaller c =
 
 pub loop-at-preserved : goal.loop-at-preserved
 loop-at-preserved c =
-    let tree = c.args.finished.now in
+    let tree = c.args.finished.now.tree in
     let before = c.loop-at.invariant in
     let deeper : depth_of tree c.args.to < depth_of tree c.loop-at.at =
     below-deeper tree.net (tree_in tree c.requires.tree) c.args.to c.loop-at.at before.at_is before.above
@@ -62,5 +62,5 @@ pub returns-clause-way : goal.returns-clause-way
 returns-clause-way c =
     sym (append-nil c.loop-at.children.items)
     ∙ ap (λ (ws : List ℕ). c.loop-at.children.items ++ ws)
-    (sym (rw c.loop-at-test.false (way_between-none c.args.finished.now c.args.to)))
+    (sym (rw c.loop-at-test.false (way_between-none c.args.finished.now.tree c.args.to)))
     ∙ c.loop-at.invariant.added

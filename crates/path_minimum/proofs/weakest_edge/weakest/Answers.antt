@@ -4,7 +4,7 @@ use Rattle.path_minimum.proofs.Counted.{weakest-none, weakest-edge, weakest-cut,
 use Rattle.path_minimum.proofs.weakest_edge.weakest.Goals as goal
 
 -- all routers were looked at
-all : (c : goal.After-loop-child) → c.args.finished.now.net.routers ≤ c.loop-child.child
+all : (c : goal.After-loop-child) → c.args.finished.now.tree.net.routers ≤ c.loop-child.child
 all c = omega (
   arith,
   c.routers-child-end.ensures.value,
@@ -12,17 +12,17 @@ all c = omega (
 )
 
 pub returns-clause-none : goal.returns-clause-none
-returns-clause-none c = weakest-none c.args.finished.now c.net.ensures.tree c.loop-child.child c.loop-child.least
+returns-clause-none c = weakest-none c.args.finished.now.tree c.net.ensures.tree c.loop-child.child c.loop-child.least
     (all c) c.loop-child.invariant.weakest
 
 pub returns-clause-edge : goal.returns-clause-edge
-returns-clause-edge c = weakest-edge c.args.finished.now c.loop-child.child c.loop-child.least (all c)
+returns-clause-edge c = weakest-edge c.args.finished.now.tree c.loop-child.child c.loop-child.least (all c)
     c.loop-child.invariant.weakest
 
 pub returns-clause-least : goal.returns-clause-least
-returns-clause-least c = weakest-cut c.args.finished.now c.net.ensures.tree c.loop-child.child c.loop-child.least
+returns-clause-least c = weakest-cut c.args.finished.now.tree c.net.ensures.tree c.loop-child.child c.loop-child.least
     (all c) c.loop-child.invariant.weakest
 
 pub returns-clause-within : goal.returns-clause-within
-returns-clause-within c = weakest-within c.args.finished.now c.loop-child.child c.loop-child.least
+returns-clause-within c = weakest-within c.args.finished.now.tree c.loop-child.child c.loop-child.least
     c.loop-child.invariant.weakest

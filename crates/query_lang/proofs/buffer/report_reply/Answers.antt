@@ -9,7 +9,7 @@ use Rattle.query_lang.proofs.buffer.report_reply.Goals as goal
 
 pub prove-unreachable-requires-2 : goal.prove-unreachable-requires-2
 prove-unreachable-requires-2 c =
-    let net = c.args.finished.now.net in
+    let net = c.args.finished.now.tree.net in
     let routers = ap (λ (net : Net). net.routers) c.requires.same in
     absurd (omega (
       arith,
@@ -21,7 +21,7 @@ prove-unreachable-requires-2 c =
 
 pub unwrap-requires : goal.unwrap-requires
 unwrap-requires c =
-    let tree = c.args.finished.now in
+    let tree = c.args.finished.now.tree in
     let put = c.write_reply.ensures.puts in
     let few : length tree.history ≤ 1024 = omega (arith, c.commits.ensures.value, c.if-prove-2.false) in
     let short = length-report c.args.version c.args.sheet.now tree c.args.request.now put.text c.net.ensures.sheet
@@ -32,4 +32,4 @@ pub returns : goal.returns
 returns c =
     let put = c.write_reply.ensures.puts in
     let gathered = put_alone _ _ put.text _ c.unwrap.result c.clear.ensures.items c.unwrap.ensures put.puts.bytes in
-    subst (IsReport c.args.version c.args.sheet.now c.args.finished.now c.args.request.now) (sym gathered) put.wanted
+    subst (IsReport c.args.version c.args.sheet.now c.args.finished.now.tree c.args.request.now) (sym gathered) put.wanted

@@ -16,7 +16,7 @@ prove-unreachable-requires g c =
 pub returns : goal.returns
 returns g c =
     let sheet = c.args.sheet.now in
-    let tree = c.args.finished.now in
+    let tree = c.args.finished.now.tree in
     let limits = subst IsInLimits (sym c.requires.same) c.net.ensures.sheet.limits in
     let routers = ap (λ (n : Net). n.routers) c.requires.same in
     let a_low = terminal-lt sheet.net c.args.a c.requires.ends.1 in

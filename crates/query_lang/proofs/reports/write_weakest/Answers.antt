@@ -7,7 +7,7 @@ use Rattle.query_lang.proofs.reports.write_weakest.Goals as goal
 pub returns : goal.returns
 returns g c =
     let sheet = c.args.sheet.now in
-    let tree = c.args.finished.now in
+    let tree = c.args.finished.now.tree in
     let limits = subst IsInLimits (sym c.requires.same) c.net.ensures.sheet.limits in
     let least = c.in-Some.least in
     let side = c.side_below-side.result in

@@ -5,7 +5,7 @@ use Rattle.query_lang.proofs.trees.named_entry.Goals as goal
 
 pub returns : goal.returns
 returns c =
-    let tree = c.args.finished.now in
+    let tree = c.args.finished.now.tree in
     let sheet = c.net-2.ensures.sheet in
     let limits = subst IsInLimits (sym c.requires.same) sheet.limits in
     let entry = c.entry.result.now in

@@ -17,7 +17,7 @@ loop-router-preserved g c =
     let within : i < n = omega arith in
     let inside : i < length (range_with_len 0 n) = rw (length-range_with_len 0 n) within in
     let here : get_or (range_with_len 0 n) i 0 ≡ i = get_or-range_with_len 0 n i 0 within ∙ zero-add i in
-    let piece = child_piece c.args.sheet.now.names c.args.finished.now in
+    let piece = child_piece c.args.sheet.now.names c.args.finished.now.tree in
     puts_more piece (range_with_len 0 n) i 0 inside c.loop-router.invariant
     (rw here c.in_ok-write_child.ensures.puts)
 
@@ -29,8 +29,8 @@ returns g c =
     c.routers-router-end.ensures.value ∙ ap (λ (net : Net). net.routers) (c.deref.ensures ∙ c.net.ensures.value) in
     let whole : take i (range_with_len 0 n) ≡ range_with_len 0 n =
     take_all _ _ (omega (arith, length-range_with_len 0 n)) in
-    let piece = child_piece c.args.sheet.now.names c.args.finished.now in
-    let all = concat-children_of c.args.sheet.now.names c.args.finished.now n
+    let piece = child_piece c.args.sheet.now.names c.args.finished.now.tree in
+    let all = concat-children_of c.args.sheet.now.names c.args.finished.now.tree n
     (ap (λ (net : Net). net.routers) c.requires) in
     let lines : concat (map piece (take i (range_with_len 0 n))) ≡ concat (map piece (range_with_len 0 n)) =
     ap (λ (xs : List ℕ). concat (map piece xs)) whole in
@@ -45,8 +45,8 @@ returns-in_err-write_child g c =
     let within : i < n = omega arith in
     let inside : i < length (range_with_len 0 n) = rw (length-range_with_len 0 n) within in
     let here : get_or (range_with_len 0 n) i 0 ≡ i = get_or-range_with_len 0 n i 0 within ∙ zero-add i in
-    let piece = child_piece c.args.sheet.now.names c.args.finished.now in
-    let all = concat-children_of c.args.sheet.now.names c.args.finished.now n
+    let piece = child_piece c.args.sheet.now.names c.args.finished.now.tree in
+    let all = concat-children_of c.args.sheet.now.names c.args.finished.now.tree n
     (ap (λ (net : Net). net.routers) c.requires) in
     let end = c.from_residual in
     let stopped = puts_stopped {e = c.in_err-write_child.field-0.0} piece (range_with_len 0 n) i 0 inside

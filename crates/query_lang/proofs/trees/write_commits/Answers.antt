@@ -6,7 +6,7 @@ use Rattle.query_lang.proofs.trees.write_commits.Goals as goal
 
 pub loop-place-preserved : goal.loop-place-preserved
 loop-place-preserved g c =
-    let history = c.args.finished.now.history in
+    let history = c.args.finished.now.tree.history in
     let i = c.loop-place.place in
     let entry = c.named_entry-entry.result.now in
     let is = c.named_entry-entry.ensures.value in
@@ -16,13 +16,13 @@ loop-place-preserved g c =
 
 pub returns : goal.returns
 returns g c =
-    let history = c.args.finished.now.history in
+    let history = c.args.finished.now.tree.history in
     let whole : take c.loop-place.place history ≡ history = take_all _ _ (omega arith) in
     record { puts = rw whole at c.loop-place.invariant }
 
 pub returns-in_err-write_edge : goal.returns-in_err-write_edge
 returns-in_err-write_edge g c =
-    let history = c.args.finished.now.history in
+    let history = c.args.finished.now.tree.history in
     let i = c.loop-place.place in
     let entry = c.named_entry-entry.result.now in
     let is = c.named_entry-entry.ensures.value in

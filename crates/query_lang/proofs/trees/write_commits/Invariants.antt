@@ -9,5 +9,5 @@ use Rattle.query_lang.proofs.trees.write_commits.Given as goal
 abbrev pub invariant-loop-place : goal.invariant-loop-place
 invariant-loop-place g l =
     let sink = g.K.Sink in
-    let put = concat (map (commit_line l.sheet.names) (take l.place l.finished.history)) in
+    let put = concat (map (commit_line l.sheet.names) (take l.place l.finished.tree.history)) in
     Puts {E = Failed} sink.written sink.write_faults sink.beside_sink sink.takes l.fn.sink l.sink (Ok tt) put

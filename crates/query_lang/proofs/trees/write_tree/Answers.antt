@@ -9,7 +9,7 @@ use Rattle.query_lang.proofs.trees.write_tree.Goals as goal
 pub returns : goal.returns
 unfolding tree_text
 returns g c =
-    let tree = c.args.finished.now in
+    let tree = c.args.finished.now.tree in
     let first_line = head_text c.args.version (codes "TREE") (terminal_count tree.net - 1) in
     let lines = concat (map (child_line c.args.sheet.now.names tree) (children_of tree.net)) in
     let put = rw c.edge_count.ensures.edges at c.in_ok-write_head.ensures.puts in
@@ -18,7 +18,7 @@ returns g c =
 pub returns-in_err-write_head : goal.returns-in_err-write_head
 unfolding tree_text
 returns-in_err-write_head g c =
-    let tree = c.args.finished.now in
+    let tree = c.args.finished.now.tree in
     let first_line = head_text c.args.version (codes "TREE") (terminal_count tree.net - 1) in
     let lines = concat (map (child_line c.args.sheet.now.names tree) (children_of tree.net)) in
     let put = rw c.edge_count.ensures.edges at c.in_err-write_head.ensures.puts in

@@ -9,8 +9,8 @@ pub loop-decided-smaller : goal.loop-decided-smaller
 loop-decided-smaller c =
     let free : set_of c.loop-decided.decided c.loop-decided.above ≡ false = search rules in
     rw c.up-above.ensures.value
-    (height-up c.args.finished.now c.requires.tree c.loop-decided.above c.loop-decided.invariant.within
-    (undecided-other c.loop-decided.decided c.loop-decided.above (root_of c.args.finished.now.net) free
+    (height-up c.args.finished.now.tree c.requires.tree c.loop-decided.above c.loop-decided.invariant.within
+    (undecided-other c.loop-decided.decided c.loop-decided.above (root_of c.args.finished.now.tree.net) free
     c.loop-decided.invariant.marked.root))
 
 pub loop-decided-preserved : goal.loop-decided-preserved
@@ -18,12 +18,12 @@ loop-decided-preserved c =
     let free : set_of c.loop-decided.decided c.loop-decided.above ≡ false = search rules in
     let low : c.loop-decided.above < length c.loop-decided.decided =
     omega (arith, c.loop-decided.invariant.marked.decided_size, c.loop-decided.invariant.within) in
-    let below_top : c.loop-decided.above ≢ root_of c.args.finished.now.net =
-    undecided-other c.loop-decided.decided c.loop-decided.above (root_of c.args.finished.now.net) free
+    let below_top : c.loop-decided.above ≢ root_of c.args.finished.now.tree.net =
+    undecided-other c.loop-decided.decided c.loop-decided.above (root_of c.args.finished.now.tree.net) free
     c.loop-decided.invariant.marked.root in
     rw (c.decide.ensures.decided, c.decide.ensures.inside, c.up-above.ensures.value) (record {
       within = rw (← c.up-above.ensures.value) c.up-above.ensures.within;
-      marked = marked_more c.args.finished.now c.loop-decided.decided c.loop-decided.inside c.loop-decided.above
+      marked = marked_more c.args.finished.now.tree c.loop-decided.decided c.loop-decided.inside c.loop-decided.above
           c.args.is_below c.loop-decided.invariant.marked c.loop-decided.invariant.within;
       begun = inr (elim c.loop-decided.invariant.begun [
         | inl first ↦ rw (← first) (put_in c.loop-decided.decided c.loop-decided.above low)
@@ -33,10 +33,10 @@ loop-decided-preserved c =
           (c.loop-decided.invariant.kept r done);
       right = λ child was is.
           let now = c.loop-decided.invariant.right child was is in (
-            decided_more c.args.finished.now child c.loop-decided.decided c.loop-decided.inside
+            decided_more c.args.finished.now.tree child c.loop-decided.decided c.loop-decided.inside
                 c.loop-decided.above c.args.is_below c.loop-decided.invariant.marked now.0
                 c.loop-decided.invariant.within free now.1,
-            now.1 ∙ below-up c.args.finished.now c.requires.tree child c.loop-decided.above
+            now.1 ∙ below-up c.args.finished.now.tree c.requires.tree child c.loop-decided.above
                 c.loop-decided.invariant.within below_top
                 (undecided-other c.loop-decided.decided c.loop-decided.above child free now.0.child),
           );

@@ -1,5 +1,5 @@
 use Rattle.std.proofs.Common.{rules, ◌≡◌, ◌<◌, length, subst}
-use Rattle.tree_state.specs.Growing.{HoldsCutTree}
+use Rattle.tree_state.specs.Views.{HoldsCutTree}
 use Rattle.tree_state.specs.History.{IsComplete}
 use Rattle.tree_versions.specs.Records.{RecordView, tree_of}
 use Rattle.tree_versions.proofs.Views.{stands_pushed, one_more, few_more, all_more}
