@@ -41,9 +41,9 @@ smallest-le f (suc n) X Y same more = elim (cases_Bool (Y n)) [
       smallest-le f n X Y
       (λ r far. elim (cases_eq r n) [
         | inl e ↦ ap Y e ∙ lacks ∙ sym (elim (cases_Bool (X r)) [
-            | inl in_x ↦ absurd (false≢true (sym lacks ∙ sym (ap Y e) ∙ more r in_x))
-            | inr out ↦ out
-          ])
+          | inl in_x ↦ absurd (false≢true (sym lacks ∙ sym (ap Y e) ∙ more r in_x))
+          | inr out ↦ out
+        ])
         | inr ne ↦ same r (omega arith)
       ])
       more in
@@ -58,9 +58,9 @@ smallest-is f (suc n) X =
     let without = smallest-is f n X in
     let with_n = smallest-is f n (also n X) in
     elim (cases_lt (smallest f n (also n X)) (smallest f n X)) [
-  | inl less ↦ (with_n.0, min-eq_right {n = smallest f n (also n X)} {m = smallest f n X} (omega arith) ∙ with_n.1)
-  | inr not_less ↦ (without.0, min-eq_left {n = smallest f n X} {m = smallest f n (also n X)} not_less ∙ without.1)
-]
+      | inl less ↦ (with_n.0, min-eq_right {n = smallest f n (also n X)} {m = smallest f n X} (omega arith) ∙ with_n.1)
+      | inr not_less ↦ (without.0, min-eq_left {n = smallest f n X} {m = smallest f n (also n X)} not_less ∙ without.1)
+    ]
 
 -- ---- what the sets that part two routers cost
 
@@ -69,9 +69,9 @@ parting-same : (a b : ℕ) (X : RouterSet) → X a ≡ true → X b ≡ false �
 parting-same a b X holds lacks r = elim (cases_eq r a) [
   | inl e ↦ rw (eq-eqb r a e) (sym (ap X e ∙ holds))
   | inr ne ↦ rw (ne_eqb r a ne) (elim (cases_eq r b) [
-      | inl e ↦ rw (eq-eqb r b e) (sym (ap X e ∙ lacks))
-      | inr other ↦ rw (ne_eqb r b other) refl
-    ])
+    | inl e ↦ rw (eq-eqb r b e) (sym (ap X e ∙ lacks))
+    | inr other ↦ rw (ne_eqb r b other) refl
+  ])
 ]
 
 -- the routers of a set that are below n
@@ -91,9 +91,9 @@ lambda-le net limits a b Y holds lacks =
     cut_value-same net limits (parting a b few) Y (λ r small. elim (cases_eq r a) [
       | inl e ↦ rw (eq-eqb r a e) (sym (ap Y e ∙ holds))
       | inr ne ↦ rw (ne_eqb r a ne) (elim (cases_eq r b) [
-          | inl e ↦ rw (eq-eqb r b e) (sym (ap Y e ∙ lacks))
-          | inr other ↦ rw (ne_eqb r b other, lt-ltb r net.routers small) refl
-        ])
+        | inl e ↦ rw (eq-eqb r b e) (sym (ap Y e ∙ lacks))
+        | inr other ↦ rw (ne_eqb r b other, lt-ltb r net.routers small) refl
+      ])
     ]) in
     omega (arith, low, alike)
 
@@ -101,13 +101,15 @@ lambda-le net limits a b Y holds lacks =
 lambda-is : (net : Net) → IsInLimits net → (a b : ℕ) → a ≢ b → (X : RouterSet) × IsLeastCut net a b X (lambda net a b)
 unfolding lambda
 lambda-is net limits a b apart =
-    let found = smallest-is (λ X. cut_value net (parting a b X)) net.routers (λ router. false) in
-    (parting a b found.0, record {
-      holds = rw (eq-eqb a a refl) refl;
-      lacks = rw (ne_eqb b a (λ e. apart (sym e)), eq-eqb b b refl) refl;
-      value = sym found.1;
-      least = λ Y holds lacks. lambda-le net limits a b Y holds lacks;
-    })
+    let found = smallest-is (λ X. cut_value net (parting a b X)) net.routers (λ router. false) in (
+      parting a b found.0,
+      record {
+        holds = rw (eq-eqb a a refl) refl;
+        lacks = rw (ne_eqb b a (λ e. apart (sym e)), eq-eqb b b refl) refl;
+        value = sym found.1;
+        least = λ Y holds lacks. lambda-le net limits a b Y holds lacks;
+      },
+    )
 
 -- two routers that differ have a least cut of that value, and each of their least cuts has it
 pub lambda_value : (net : Net) → IsInLimits net → (a b : ℕ) → a ≢ b

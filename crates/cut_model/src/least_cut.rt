@@ -43,7 +43,8 @@ impl<'a> Model for LeastCut<'a> {
 }
 
 impl<'a> LeastCut<'a> {
-    /// Holds a least cut of `router` from `neighbour`. It takes no memory.
+    /// A least cut of `router` from `neighbour`, whose side costs `value`. In a network of routers 0 and 1
+    /// with one link of 5 between them, the side that holds router 1 alone is one of 1 from 0, of value 5.
     pub fn hold(
         net: &'a Network,
         router: u32,

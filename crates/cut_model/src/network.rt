@@ -106,8 +106,12 @@ fn find_fault(routers: u32, links: &[Link]) -> Option<NetFault>
 }
 
 impl Network {
-    /// The network of these routers and links, or its first fault with the links handed back. It
-    /// takes no memory, and looks at each link at most twice.
+    /// The network of these routers and links, or its first fault with the links handed back. It never
+    /// fails for want of memory, and looks at each link at most twice.
+    ///
+    /// # Errors
+    /// A [`NetFault`], the first that applies in the order in which they stand there. Two routers with the
+    /// links `{ a: 0, b: 1, cap: 1_000_000_000_001 }` and `{ a: 0, b: 5, cap: 1 }` get `EndOutside(1)`.
     pub fn make(routers: u32, links: Vec<Link>) -> Result<Network, (NetFault, Vec<Link>)>
         ensures fault { IfErr result (λ e. net_fault routers links.items ≡ Some e.0) }
         ensures links_back { IfErr result (λ e. e.1.items ≡ links.items) }
@@ -143,7 +147,8 @@ impl Network {
     }
 
     /// Whether both are the same network: the same number of routers, and the same links in the same
-    /// order. It looks at each link at most once.
+    /// order. It looks at each link at most once. A network with the same links in another order is
+    /// another network.
     pub fn same_as(&self, other: &Network) -> bool
         ensures { IsTrue result ↔ (self.now ≡ other.now) }
     {
@@ -180,6 +185,7 @@ impl Network {
         ensures terminal { IsTerminal self.now result }
         ensures first { (r : ℕ) → IsTerminal self.now r → result ≤ r }
     {
+        // That a field is looked at shows what the type keeps: there is a router, so 0 is one.
         let _ = &self.routers;
         0
     }

@@ -7,9 +7,12 @@ ghost use Rattle.cut_model.specs.declared.network.TheConstants.{MOST_ROUTERS};
 
 use std::marker::Model;
 
-/// A set of the routers below its size, which is at most 1,024. It takes no memory: sixteen words of
-/// 64 bits hold it, router r in bit `r % 64` of word `r / 64`. Contracts see a list of truth values,
-/// one for each router.
+/// A set of the routers below its size, which is at most [`MOST_ROUTERS`](crate::MOST_ROUTERS). It is
+/// sixteen words of 64 bits, router r in bit `r % 64` of word `r / 64`, and needs no memory beside
+/// itself. Contracts see a list of truth values, one for each router.
+///
+/// After `let mut side = Side::empty(3)` and `side.put(1)`, `side.has(1)` is true, `side.has(2)` is
+/// false, and `side.count()` is 1.
 #[derive(Clone, Copy, Debug)]
 pub struct Side {
     words: [u64; 16],
