@@ -1,10 +1,11 @@
 -- What a growing tree keeps, from the empty history on and through each commit.
-use Rattle.std.proofs.Common.{◌≡◌, ◌≢◌, ◌⊎◌, inl, inr, ℕ, ◌<◌, Bool, true, false, List, [], ◌∷◌, ◌++◌, length}
+use Rattle.std.proofs.Common.{◌≡◌, ◌≢◌, ◌⊎◌, inl, inr, ℕ, ◌<◌, ◌≤◌, Bool, true, false, List, [], ◌∷◌, ◌++◌, length}
 use Rattle.std.proofs.Common.{set, replicate, sym, ap, ◌∙◌, refl, arith, get_or-set_same, get_or-set_other}
 use Rattle.std.proofs.Math.ListN.{length-set}
-use Rattle.std.proofs.lemmas.Bool.{cases_eq}
+use Rattle.std.proofs.lemmas.Bool.{cases_eq, false≢true}
 use Rattle.std.proofs.lemmas.List.{length-replicate, get_or-replicate}
 use Rattle.std.specs.Prelude.{slice_index, slice_index_or}
+use Rattle.cut_model.specs.declared.network.TheConstants.{MOST_VALUE}
 use Rattle.cut_model.specs.Net.{Net, IsInLimits}
 use Rattle.cut_model.specs.Cuts.{RouterSet, set_of}
 use Rattle.cut_model.specs.Held.{CutView, IsHeldCut}
@@ -15,8 +16,10 @@ use Rattle.tree_state.specs.declared.entry.Entry.{Entry}
 use Rattle.tree_state.specs.Tables.{Table, Tables, up_after, width_after}
 use Rattle.tree_state.specs.History.{tables, entered, entry_of, MayFollow, IsLegalAfter}
 use Rattle.tree_state.specs.Growing.{IsGrown}
+use Rattle.tree_state.specs.Trees.{IsHalfBuiltTree}
 use Rattle.tree_state.proofs.Histories.{tables-push, entered-push, legal_push}
-use Rattle.tree_state.proofs.Ranges.{bounded, length-lt}
+use Rattle.tree_state.proofs.HalfBuilt.{half_built}
+use Rattle.tree_state.proofs.Ranges.{bounded, length-lt, widths-most}
 
 -- the tables of the empty history
 pub grown_start : (net : Net)
@@ -51,6 +54,25 @@ pub above-lt : {net : Net} {up width : List ℕ} {done : List Bool} {history : L
     → slice_index up i < net.routers
 above-lt {net = net} {history = history} g limits i low =
     rw (g.up_is i low) ((bounded net (root-lt net limits) history g.legal).ups i)
+
+-- and above a router that isn't entered, and isn't the root, is another one
+pub above-other : {net : Net} {up width : List ℕ} {done : List Bool} {history : List Entry}
+    → IsGrown net up width done history → IsInLimits net → (s : ℕ) → entered history s ≡ false → s ≢ root_of net
+    → s ≢ (tables (root_of net) history).up s
+above-other {net = net} {history = history} g limits s fresh not_root same = elim (half.inner s) [
+  | inl top ↦ not_root (same ∙ top)
+  | inr is_entered ↦ false≢true (sym fresh ∙ ap (entered history) same ∙ is_entered)
+]
+  where
+    half : IsHalfBuiltTree net (tables (root_of net) history).up (tables (root_of net) history).width (entered history)
+    half = half_built net (root-lt net limits) history g.legal
+
+-- no width is more than a cut may cost
+pub width-most : {net : Net} {up width : List ℕ} {done : List Bool} {history : List Entry}
+    → IsGrown net up width done history → IsInLimits net → (i : ℕ) → i < net.routers
+    → slice_index width i ≤ MOST_VALUE
+width-most {net = net} {history = history} g limits i low =
+    rw (g.width_is i low) (widths-most net limits history g.legal i)
 
 -- there are fewer entries than routers
 pub entries-lt : {net : Net} {up width : List ℕ} {done : List Bool} {history : List Entry}

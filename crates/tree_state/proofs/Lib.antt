@@ -4,6 +4,7 @@ pub mod Completed
 pub mod Words
 pub mod Written
 pub mod Grown
+pub mod Retakes
 pub mod Forest
 pub mod Stages
 pub mod NextTables

@@ -1,17 +1,19 @@
 -- Within which bounds the tables and the lengths of legal histories lie.
-use Rattle.std.proofs.Common.{◌≡◌, ℕ, suc, ◌<◌, false, List, [], ◌∷◌, ◌++◌, length}
+use Rattle.std.proofs.Common.{◌≡◌, ℕ, suc, ◌<◌, ◌≤◌, false, List, [], ◌∷◌, ◌++◌, length}
 use Rattle.std.proofs.Common.{sym, ap, ◌∙◌, refl, subst, arith}
 use Rattle.std.proofs.lemmas.Bool.{cases_Bool}
 use Rattle.std.proofs.lemmas.List.{length_push}
 use Rattle.std.specs.Prelude.{◌==◌}
-use Rattle.cut_model.specs.Net.{Net}
+use Rattle.cut_model.specs.declared.network.TheConstants.{MOST_VALUE}
+use Rattle.cut_model.specs.Net.{Net, IsInLimits}
 use Rattle.cut_model.specs.Cuts.{RouterSet, set_of}
 use Rattle.cut_model.specs.Terminals.{number_in, root_of}
 use Rattle.cut_model.proofs.Counting.{with_number, with_number-other, number_in-none, number_in-lt, number_in-new}
 use Rattle.cut_model.proofs.Counting.{number_in-same}
+use Rattle.cut_model.proofs.Costs.{cut_value-most}
 use Rattle.cut_model.proofs.Terminals.{terminal-lt}
 use Rattle.tree_state.specs.declared.entry.Entry.{Entry}
-use Rattle.tree_state.specs.Tables.{Table, Tables, swaps, up_after}
+use Rattle.tree_state.specs.Tables.{Table, Tables, swaps, up_after, width_after}
 use Rattle.tree_state.specs.History.{tables, entered, MayFollow, IsLegal}
 use Rattle.tree_state.proofs.Histories.{tables-push, entered-push, by_entries}
 
@@ -92,3 +94,39 @@ length-lt-more net room history entry legal may =
       length_push history entry,
       number_in-lt (entered (history ++ entry ∷ [])) (root_of net) net.routers b.root_free room,
     )
+
+-- ---- widths
+
+-- a commit writes its value and a width that was there
+width_after-le : (most root : ℕ) (up width : Table) (s t k : ℕ) (X : RouterSet) (i : ℕ) → ((j : ℕ) → width j ≤ most)
+    → k ≤ most → width_after root up width s t k X i ≤ most
+unfolding width_after
+width_after-le most root up width s t k X i widths value =
+    let here : width i ≤ most = widths i in
+    let above : width t ≤ most = widths t in
+    grind (arith, cases_Bool (i == s), cases_Bool (i == t), cases_Bool (swaps root up t X))
+
+-- No width is more than a cut may cost.
+abbrev HasWidthsAtMost : Net → List Entry → Type 0
+HasWidthsAtMost net history = (i : ℕ) → (tables (root_of net) history).width i ≤ MOST_VALUE
+
+-- at first all are 0
+widths_start : (net : Net) → HasWidthsAtMost net []
+unfolding tables
+widths_start net i = omega arith
+
+-- and each entry writes what its cut costs
+widths_push : (net : Net) → IsInLimits net → (before : List Entry) (entry : Entry) → HasWidthsAtMost net before
+    → MayFollow net before entry → HasWidthsAtMost net (before ++ entry ∷ [])
+widths_push net limits before entry widths may i =
+    subst (λ (T : Tables). T.width i ≤ MOST_VALUE) (sym (tables-push (root_of net) before entry))
+    (width_after-le MOST_VALUE (root_of net) (tables (root_of net) before).up (tables (root_of net) before).width
+    entry.router entry.neighbour entry.value (set_of entry.side) i widths value)
+  where
+    value : entry.value ≤ MOST_VALUE
+    value = rw (← may.least.value) (cut_value-most net limits (set_of entry.side))
+
+-- so no width of a legal history is more than a cut may cost
+pub widths-most : (net : Net) → IsInLimits net → (history : List Entry) → IsLegal net history
+    → HasWidthsAtMost net history
+widths-most net limits = by_entries net (HasWidthsAtMost net) (widths_start net) (widths_push net limits)

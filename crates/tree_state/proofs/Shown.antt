@@ -1,11 +1,7 @@
 -- What a side that shows a set has of the set: it costs as much, and where the set is a least cut, so is the side.
-use Rattle.std.proofs.Common.{◌≡◌, ℕ, ◌<◌, Bool, List, [], ◌∷◌, sym, ◌∙◌, refl}
-use Rattle.std.specs.Prelude.{sum_by}
-use Rattle.std.specs.List.{AllByRecursion}
-use Rattle.std.proofs.lemmas.List.Sums.{sum_by-cons}
-use Rattle.cut_model.specs.declared.network.Link.{Link}
+use Rattle.std.proofs.Common.{ℕ, ◌<◌, Bool, List, ◌∙◌}
 use Rattle.cut_model.specs.Net.{Net, IsInLimits}
-use Rattle.cut_model.specs.Cuts.{RouterSet, set_of, across, cut_value, IsLeastCut}
+use Rattle.cut_model.specs.Cuts.{RouterSet, set_of, IsLeastCut}
 use Rattle.cut_model.proofs.Costs.{cut_value-same}
 use Rattle.cut_model.proofs.Terminals.{terminal-lt}
 use Rattle.tree_state.specs.Paths.{IsGlobalCut}

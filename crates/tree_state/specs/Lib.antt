@@ -1,6 +1,7 @@
 pub mod Tables
 pub mod Words
 pub mod History
+pub mod Moves
 pub mod Trees
 pub mod Shown
 pub mod Paths

@@ -1,9 +1,11 @@
 //! The tree when it is complete.
-ghost use Rattle.std.specs.Prelude.{◌≡◌, ◌+◌, ◌<◌, Some, length, slice_get};
+ghost use Rattle.std.specs.Prelude.{◌≡◌, ◌+◌, ◌<◌, ◌≤◌, Some, length, slice_get, slice_index};
 ghost use Rattle.std.specs.Arc.{arc_value};
+ghost use Rattle.cut_model.specs.declared.network.TheConstants.{MOST_VALUE};
 ghost use Rattle.cut_model.specs.Terminals.{IsTerminal, terminal_count, root_of};
-ghost use Rattle.tree_state.specs.Views.{up_of, width_of, HoldsCutTree};
+ghost use Rattle.tree_state.specs.Views.{tree_in, up_of, width_of, HoldsCutTree};
 ghost use Rattle.tree_state.specs.History.{IsComplete};
+ghost use Rattle.tree_state.specs.Moves.{moves};
 
 use crate::entry::Entry;
 use crate::growing::Growing;
@@ -21,22 +23,23 @@ pub struct Finished {
 }
 
 impl Model for Finished {
-    ghost use Rattle.tree_state.specs.Views.{FinishedView, HoldsCutTree};
+    ghost use Rattle.tree_state.specs.Views.{FinishedView, tree_in, HoldsCutTree};
     ghost use Rattle.tree_state.specs.History.{IsComplete};
 
     ghost Value = { FinishedView };
 
-    ghost view = { λ f. record { tree = f.grown } };
+    ghost view = { λ f. record { tree = tree_in f.grown; retakes = f.grown.retakes } };
 
-    ghost invariant = { λ f. IsComplete f.grown.net f.grown.history × HoldsCutTree f.grown };
+    ghost invariant = { λ f. IsComplete f.grown.net f.grown.history × HoldsCutTree (tree_in f.grown) };
 }
 
 impl Finished {
     /// Holds a cut tree whose history is complete. It takes no memory.
     pub fn hold(grown: Growing) -> Finished
         requires complete { IsComplete grown.net grown.history }
-        requires tree { HoldsCutTree grown }
-        ensures { result.tree ≡ grown }
+        requires tree { HoldsCutTree (tree_in grown) }
+        ensures tree { result.tree ≡ tree_in grown }
+        ensures retakes { result.retakes ≡ grown.retakes }
     {
         Finished { grown }
     }
@@ -73,7 +76,8 @@ impl Finished {
     #[inline]
     pub fn width(&self, c: u32) -> u64
         requires { c < self.now.tree.net.routers }
-        ensures { result ≡ width_of self.now.tree c }
+        ensures value { result ≡ width_of self.now.tree c }
+        ensures most { result ≤ MOST_VALUE }
     {
         self.grown.width(c)
     }
@@ -92,5 +96,15 @@ impl Finished {
         ensures { slice_get self.now.tree.history i ≡ Some result.now }
     {
         self.grown.entry(i)
+    }
+
+    /// How many cuts of `s` weren't taken while the tree grew, since the router above it had moved. It moved
+    /// at least as often.
+    pub fn retakes(&self, s: u32) -> u32
+        requires { s < self.now.tree.net.routers }
+        ensures value { result ≡ slice_index self.now.retakes s }
+        ensures few { result ≤ moves (root_of self.now.tree.net) self.now.tree.history s }
+    {
+        self.grown.retakes(s)
     }
 }

@@ -3,6 +3,7 @@ use Rattle.std.specs.Arc.{arc_value}
 use Rattle.cut_model.specs.Net.{Net, IsInLimits}
 use Rattle.cut_model.specs.Terminals.{root_of}
 use Rattle.tree_state.proofs.Grown.{grown_start}
+use Rattle.tree_state.proofs.Retakes.{retakes_start}
 use Rattle.tree_state.proofs.growing.Growing.make.Goals as goal
 
 pub invariant_of-result : goal.invariant_of-result
@@ -26,5 +27,15 @@ invariant_of-result c =
         up_room = c.in_ok-table.ensures.room;
         width_room = c.in_ok-table-2.ensures.room;
         history_room = omega (arith, c.in_ok-with_capacity.ensures.exact);
+        reads_room = c.in_ok-table-3.ensures.room;
+        retakes_room = c.in_ok-table-4.ensures.room;
       },
+      rw (
+        c.in_ok-with_capacity.ensures.items,
+        c.in_ok-table-3.ensures.items,
+        c.in_ok-table-4.ensures.items,
+        routers,
+        root,
+      )
+          (retakes_start (arc_value c.args.net)),
     )
