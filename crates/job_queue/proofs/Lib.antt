@@ -1,0 +1,4 @@
+pub mod Weights
+pub mod Views
+pub mod Moves
+pub mod Gathered

@@ -1,0 +1,4 @@
+pub mod Weights
+pub mod Rule
+pub mod Passes
+pub mod Counts
