@@ -1,6 +1,5 @@
 -- The lines and the items of bytes that come piece by piece.
-use Rattle.std.proofs.Common.{◌≡◌, ◌≢◌, ℕ, List, [], ◌∷◌, ◌++◌, map, Bool, true, false, refl, sym, ap, ◌∙◌, ne_eqb}
-use Rattle.std.proofs.Common.{cond, All, eqb}
+use Rattle.std.proofs.Common.{◌≡◌, ◌≢◌, ℕ, List, [], ◌∷◌, ◌++◌, map, Bool, true, false, refl, ap, ne_eqb}
 use Rattle.std.proofs.lemmas.List.Elements.{All-head, All-tail}
 use Rattle.text_forms.specs.Lines.{NoFeed, front_of, fronts_of, lines_of, join_byte}
 

@@ -1,5 +1,5 @@
 -- Lines as they are written: words with one space between each two.
-use Rattle.std.proofs.Common.{◌≡◌, ◌≢◌, ℕ, ◌≤◌, ◌<◌, List, [], ◌∷◌, ◌++◌, Bool, true, false, ◌&&◌, All, length}
+use Rattle.std.proofs.Common.{◌≡◌, ◌≢◌, ℕ, ◌+◌, ◌≤◌, ◌<◌, List, [], ◌∷◌, ◌++◌, Bool, true, false, ◌&&◌, All, length}
 use Rattle.std.proofs.Common.{nat_lt, nat_le, map, refl, sym, ap, ◌∙◌, arith, append_assoc, take_all}
 use Rattle.std.specs.List.{list_all, concat, AllByRecursion}
 use Rattle.std.proofs.lemmas.Bool.{and_parts, leb-true, ltb-true, le-ltb, ne_eqb}
@@ -7,6 +7,8 @@ use Rattle.std.proofs.lemmas.Bool.Decides.{nat_tests}
 use Rattle.std.proofs.lemmas.List.{append-nil}
 use Rattle.std.proofs.lemmas.List.Elements.{All-append, All-cons, All-head, All-tail, All-nil, All-weaker}
 use Rattle.std.proofs.lemmas.List.Sums.{AllPass-from_list_all, list_all-from_AllPass}
+use Rattle.text_forms.specs.declared.lines.TheConstants.{MOST_LINE_BYTES}
+use Rattle.text_forms.specs.declared.names.TheConstants.{MOST_NAME_BYTES}
 use Rattle.text_forms.specs.Lines.{NoFeed, front_of, fronts_of, is_long}
 use Rattle.text_forms.specs.Names.{is_name, is_name_byte}
 use Rattle.text_forms.specs.Words.{is_passed, is_end, line_words, words_of, without_return}
@@ -36,22 +38,22 @@ IsWord-from_test word passes =
 name_byte-above : (b : ℕ) → is_name_byte b ≡ true → 32 < b
 name_byte-above b is = grind (arith, nat_tests)
 
--- A name has 1 to 32 bytes.
-name_size : (name : List ℕ) → is_name name ≡ true → (0 < length name) × (length name ≤ 32)
+-- A name has a byte, and not too many.
+name_size : (name : List ℕ) → is_name name ≡ true → (0 < length name) × (length name ≤ MOST_NAME_BYTES)
 name_size name is =
-    let sized = nat_lt 0 (length name) && nat_le (length name) 32 in
+    let sized = nat_lt 0 (length name) && nat_le (length name) MOST_NAME_BYTES in
     let size = and_parts sized (list_all is_name_byte name) is in
-    let parts = and_parts (nat_lt 0 (length name)) (nat_le (length name) 32) size.0 in
-    (ltb-true 0 (length name) parts.0, leb-true (length name) 32 parts.1)
+    let parts = and_parts (nat_lt 0 (length name)) (nat_le (length name) MOST_NAME_BYTES) size.0 in
+    (ltb-true 0 (length name) parts.0, leb-true (length name) MOST_NAME_BYTES parts.1)
 
--- So it has at most 32.
-pub length-name : (name : List ℕ) → is_name name ≡ true → length name ≤ 32
+-- So it is short.
+pub length-name : (name : List ℕ) → is_name name ≡ true → length name ≤ MOST_NAME_BYTES
 length-name name is = (name_size name is).1
 
 -- A name is a word of a line.
 pub IsWord-name : (name : List ℕ) → is_name name ≡ true → IsWord name
 IsWord-name name is =
-    let sized = nat_lt 0 (length name) && nat_le (length name) 32 in
+    let sized = nat_lt 0 (length name) && nat_le (length name) MOST_NAME_BYTES in
     let all = AllPass-from_list_all is_name_byte name (and_parts sized (list_all is_name_byte name) is).1 in
     record {
       some = (name_size name is).0;
@@ -100,14 +102,14 @@ without_return-none (b ∷ []) none = rw (ne_eqb b 13 (All-head (λ b. b ≢ 13)
 without_return-none (b ∷ c ∷ bytes) none =
     ap (λ rest. b ∷ rest) (without_return-none (c ∷ bytes) (All-tail (λ b. b ≢ 13) b (c ∷ bytes) none))
 
--- A line of these words, of at most 512 bytes and without a line feed.
+-- A line of these words, which isn't too long and has no line feed.
 pub record IsLineOf (words : List (List ℕ)) (line : List ℕ) : Type 0 where
   pub parts : line_words line ≡ words
-  pub short : length line ≤ 512
+  pub short : length line ≤ MOST_LINE_BYTES
   pub clean : NoFeed line
 
 -- Spaced words are a line of these words.
-pub IsLineOf-spaced : (words : List (List ℕ)) → AllByRecursion IsWord words → length (spaced words) ≤ 512
+pub IsLineOf-spaced : (words : List (List ℕ)) → AllByRecursion IsWord words → length (spaced words) ≤ MOST_LINE_BYTES
     → IsLineOf words (spaced words)
 IsLineOf-spaced words are short =
     let bytes = bytes-spaced words are in
@@ -120,7 +122,7 @@ IsLineOf-spaced words are short =
 
 -- Such a line isn't too long.
 pub is_long-short : {words : List (List ℕ)} {line : List ℕ} → IsLineOf words line → is_long line ≡ false
-is_long-short {line = line} is = le-ltb 512 (length line) is.short
+is_long-short {line = line} is = le-ltb MOST_LINE_BYTES (length line) is.short
 
 -- It is passed over only where its words make a remark.
 pub is_passed-word : {b : ℕ} {word : List ℕ} {words : List (List ℕ)} {line : List ℕ}
@@ -134,7 +136,7 @@ is_end-more is = rw (is_long-short is, is.parts) refl
 
 -- What is looked at of such a line is the whole line.
 front_of-short : {words : List (List ℕ)} {line : List ℕ} → IsLineOf words line → front_of line ≡ line
-front_of-short {line = line} is = let short = is.short in take_all 513 line (omega arith)
+front_of-short {line = line} is = let short = is.short in take_all (MOST_LINE_BYTES + 1) line (omega arith)
 
 -- Lines that are written with a line feed behind each are read again, and what stands behind them is read after them.
 pub fronts_of-written : {X : Type 0} (ended : Bool) (words : X → List (List ℕ)) (line : X → List ℕ) (xs : List X)

@@ -1,6 +1,7 @@
 -- The lines of a stream of bytes.
-use Rattle.std.specs.Prelude.{◌≢◌, ℕ, List, [], ◌∷◌, Bool, All, ◌==◌, if◌then◌else◌, length, nat_lt, map}
+use Rattle.std.specs.Prelude.{◌≢◌, ℕ, ◌+◌, List, [], ◌∷◌, Bool, All, ◌==◌, if◌then◌else◌, length, nat_lt, map}
 use Rattle.std.specs.Prelude.{take}
+use Rattle.text_forms.specs.declared.lines.TheConstants.{MOST_LINE_BYTES}
 
 -- no line feed is among the bytes
 abbrev pub NoFeed : List ℕ → Type 0
@@ -16,13 +17,13 @@ abbrev pub lines_of : Bool → List ℕ → List (List ℕ)
 lines_of ended [] = []
 lines_of ended (b ∷ bytes) = if b == 10 then [] ∷ lines_of ended bytes else join_byte b (lines_of ended bytes) ended
 
--- a line of more than 512 bytes is too long
+-- a line of more bytes than a line may have is too long
 abbrev pub is_long : List ℕ → Bool
-is_long line = nat_lt 512 (length line)
+is_long line = nat_lt MOST_LINE_BYTES (length line)
 
 -- what is looked at of a line: enough of it to see that it is too long
 abbrev pub front_of : List ℕ → List ℕ
-front_of line = take 513 line
+front_of line = take (MOST_LINE_BYTES + 1) line
 
 -- the fronts of all lines
 abbrev pub fronts_of : Bool → List ℕ → List (List ℕ)

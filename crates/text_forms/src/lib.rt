@@ -9,7 +9,7 @@ mod names;
 mod numbers;
 mod words;
 
-pub use lines::{is_bye, is_end, is_load, is_long, is_passed, without_return};
-pub use names::is_name;
+pub use lines::{MOST_LINE_BYTES, is_bye, is_end, is_load, is_long, is_passed, without_return};
+pub use names::{MOST_NAME_BYTES, is_name};
 pub use numbers::parse_number;
 pub use words::{one_word, split_word, three_words, two_words};

@@ -16,17 +16,19 @@ ghost use Rattle.text_forms.specs.Words.{
 
 use crate::words::{from_first_word, split_word};
 
-/// The most bytes that a line may have, its carriage return counted.
-const LONGEST_LINE: usize = 512;
+/// The most bytes that a line may have, its carriage return counted and its line feed not.
+pub const MOST_LINE_BYTES: usize = 512;
 
-/// A line of more than 512 bytes is too long. The first 513 bytes of a line tell.
+/// A line of more than [`MOST_LINE_BYTES`] bytes is too long. One byte more than these of a line tells.
+/// `router a` isn't too long.
 pub fn is_long(line: &[u8]) -> bool
     ensures { result ≡ long_line line.now }
 {
-    line.len() > LONGEST_LINE
+    line.len() > MOST_LINE_BYTES
 }
 
-/// The line without the carriage return that may be its last byte.
+/// The line without the carriage return that may be its last byte: of `BYE\r` it gives `BYE`, and of
+/// `BYE` the same.
 pub fn without_return(line: &[u8]) -> &[u8]
     ensures { result.now ≡ line_text line.now }
 {
@@ -64,28 +66,29 @@ fn is_word_line(word: &[u8], line: &[u8]) -> bool
 }
 
 /// An empty line or a remark, which isn't too long: it is passed over wherever lines are read.
-/// Looks at the first byte of the first word and at what stands before it.
+/// Looks at the first byte of the first word and at what stands before it. `\t# x` is passed over, and
+/// `x #` isn't.
 pub fn is_passed(line: &[u8]) -> bool
     ensures { result ≡ passed_line line.now }
 {
     !is_long(line) && starts_remark(without_return(line))
 }
 
-/// The line that begins a network text.
+/// The line that begins a network text: ` LOAD\r` is one, and `load` or `LOAD x` is none.
 pub fn is_load(line: &[u8]) -> bool
     ensures { result ≡ load_line line.now }
 {
     is_word_line(b"LOAD", line)
 }
 
-/// The line that ends a network text.
+/// The line that ends a network text: `END` is one, and `END.` is none.
 pub fn is_end(line: &[u8]) -> bool
     ensures { result ≡ end_line line.now }
 {
     is_word_line(b"END", line)
 }
 
-/// The line that ends a session.
+/// The line that ends a session: `BYE ` is one, and `BYEBYE` is none.
 pub fn is_bye(line: &[u8]) -> bool
     ensures { result ≡ bye_line line.now }
 {

@@ -34,7 +34,8 @@ fn capped_value(digits: &[u8]) -> u64
 }
 
 /// The decimal value of one digit or more, however many there are and with leading zeros or none;
-/// none where the bytes are no number. A value past the type is given as its largest value.
+/// none where the bytes are no number. A value past the type is given as its largest value. `007` is
+/// 7, and `+7` is no number.
 pub fn parse_number(bytes: &[u8]) -> Option<u64>
     ensures { result ≡ option_map (min (2 ^ 64 - 1)) (number_in bytes.now) }
 {

@@ -36,7 +36,7 @@ pub(crate) fn from_first_word(bytes: &[u8]) -> &[u8]
 }
 
 /// The first word and what stands behind it; none where there is no word.
-/// Goes to the end of the first word, and no further.
+/// Goes to the end of the first word, and no further. Of ` link a b` it gives `link` and ` a b`.
 pub fn split_word(bytes: &[u8]) -> Option<(&[u8], &[u8])>
     ensures { MatchOption result (words_of bytes.now ≡ [])
         (λ split. words_of bytes.now ≡ split.0.now ∷ words_of split.1.now) }
@@ -50,7 +50,7 @@ pub fn split_word(bytes: &[u8]) -> Option<(&[u8], &[u8])>
 }
 
 /// The word of a text, where there is just one. Like those below, it goes over the words that it gives, and no further
-/// than to the beginning of the next.
+/// than to the beginning of the next. Of ` a ` it gives `a`, and of `a b` none.
 pub fn one_word(text: &[u8]) -> Option<&[u8]>
     ensures { MatchOption result (length (words_of text.now) ≢ 1)
         (λ word. words_of text.now ≡ word.now ∷ []) }
@@ -62,7 +62,7 @@ pub fn one_word(text: &[u8]) -> Option<&[u8]>
     Some(word)
 }
 
-/// The words of a text, where there are just two.
+/// The words of a text, where there are just two: of `a  b` these are `a` and `b`.
 pub fn two_words(text: &[u8]) -> Option<(&[u8], &[u8])>
     ensures { MatchOption result (length (words_of text.now) ≢ 2)
         (λ words. words_of text.now ≡ words.0.now ∷ words.1.now ∷ []) }
@@ -72,7 +72,7 @@ pub fn two_words(text: &[u8]) -> Option<(&[u8], &[u8])>
     Some((first, second))
 }
 
-/// The words of a text, where there are just three.
+/// The words of a text, where there are just three: of `a\tb 7` these are `a`, `b` and `7`.
 pub fn three_words(text: &[u8]) -> Option<(&[u8], &[u8], &[u8])>
     ensures { MatchOption result (length (words_of text.now) ≢ 3)
         (λ words. words_of text.now ≡ words.0.now ∷ words.1.now ∷ words.2.now ∷ []) }
