@@ -9,7 +9,7 @@ use Rattle.std.specs.Io.KnownBytes.{Appends}
 use Rattle.std.specs.Result.{IsErr}
 use Rattle.wires.specs.Beside.{Beside}
 use Rattle.wires.specs.Bytes.{PutAppends}
-use Rattle.wires.specs.Causes.{HasCause, Rose}
+use Rattle.wires.specs.Causes.{HasCause}
 use Rattle.wires.specs.Puts.{Puts}
 
 -- known bytes that stay grow by nothing
@@ -42,16 +42,10 @@ PutAppends-front a b e x y p =
     let within : p.0 ≤ length (x ++ y) = omega (arith, p.1, length-append x y) in
     (p.0, within, subst (Appends a b) (sym (take-append-le p.0 x y p.1)) p.2)
 
--- a fault that rose from a later count rose from an earlier one
-pub Rose-later : (before mid now : ℕ) → before ≤ mid → Rose mid now → Rose before now
-Rose-later before mid now low rose = grind arith
-
--- a call that didn't fail, and then another
-pub HasCause-then : {T U E F : Type 0} (before mid now : ℕ) (r : Result T E) (s : Result U F)
-    → HasCause before mid r → HasCause mid now s → HasCause before now s
-HasCause-then before mid now r (Ok u) p q = record { later = omega (arith, p.later, q.later); failed = tt }
-HasCause-then before mid now r (Err e) p q =
-    record { later = omega (arith, p.later, q.later); failed = Rose-later before mid now p.later q.failed }
+-- where a call succeeded, the next one's fault is the first
+pub HasCause-then : {T U E F : Type 0} (before mid now : ℕ) (t : T) (s : Result U F)
+    → HasCause {E = E} before mid (Ok t) → HasCause mid now s → HasCause before now s
+HasCause-then before mid now t s p q = subst (λ count. HasCause count now s) p.still q
 
 -- the length of two texts and something more
 length_on : (x y : List ℕ) (n : ℕ) → length (x ++ y) + n ≡ length x + (length y + n)
@@ -62,7 +56,7 @@ pub puts_none : {S E : Type 0} (written : S → Option (List ℕ)) (write_faults
     (takes : S → ℕ → Bool) (sink : S) → Puts {E = E} written write_faults beside_sink takes sink sink (Ok tt) []
 puts_none written write_faults beside_sink takes sink = record {
   bytes = Appends-none (written sink);
-  cause = record { later = omega arith; failed = tt };
+  cause = record { later = omega arith; still = refl; failed = tt };
   beside = refl;
   sure = λ n h. refl;
   room = λ n h. subst (λ k. IsTrue (takes sink k)) (zero-add n) h;
@@ -90,7 +84,7 @@ puts_then
     let longer : (n : ℕ) → IsTrue (takes old (length (x ++ y) + n)) → IsTrue (takes mid (length y + n)) =
     λ n h. p.room (length y + n) (subst (λ k. IsTrue (takes old k)) (length_on x y n) h) in record {
       bytes = PutAppends-append (written old) (written mid) (written new) result x y p.bytes q.bytes;
-      cause = HasCause-then (faults old) (faults mid) (faults new) (Ok u) result p.cause q.cause;
+      cause = HasCause-then (faults old) (faults mid) (faults new) u result p.cause q.cause;
       beside = q.beside ∙ p.beside;
       sure = λ n h. q.sure n (longer n h);
       room = λ n h. q.room n (longer n h);
@@ -107,7 +101,7 @@ puts_failed {takes = takes} {old = old} x y (Err e) is p =
     λ n h.
     let ok = p.sure (length y + n) (subst (λ k. IsTrue (takes old k)) (length_on x y n) h) in absurd (cc) in record {
       bytes = PutAppends-front _ _ e x y p.bytes;
-      cause = record { later = p.cause.later; failed = p.cause.failed };
+      cause = record { later = p.cause.later; still = tt; failed = p.cause.failed };
       beside = p.beside;
       sure = λ n h. absurd (never n h);
       room = λ n h. absurd (never n h);

@@ -1,7 +1,8 @@
 -- Sources and sinks in memory as contracts see them, and what their next call does.
-use Rattle.std.specs.Prelude.{ℕ, ◌+◌, ◌-◌, ◌^◌, ◌==◌, ◌&&◌, min, List, [], length, take, Bool, not}
+use Rattle.std.specs.Prelude.{ℕ, ◌-◌, ◌==◌, ◌&&◌, min, List, [], length, take, Bool, not}
 use Rattle.std.specs.Prelude.{if◌then◌else◌}
 use Rattle.std.specs.List.{list_any}
+use Rattle.wires.specs.Causes.{one_more}
 
 -- a source: the bytes that are left, the most that a read gives, the numbers of the reads that fail,
 -- how many reads there were, how many of them failed, and whether one met the end
@@ -26,14 +27,6 @@ pub record Store : Type 0 where
 pub record Sure : Type 0 where
   pub left : List ℕ
   pub ended : Bool
-
--- the count after one more, which stays at the end of its type
-abbrev pub one_more : ℕ → ℕ
-one_more count = min (count + 1) (2 ^ 64 - 1)
-
--- the count after a call that may have failed
-abbrev pub counted : Bool → ℕ → ℕ
-counted failed faults = if failed then one_more faults else faults
 
 -- the call is one of those with these numbers
 abbrev pub is_named : List ℕ → ℕ → Bool

@@ -5,7 +5,7 @@ ghost use Rattle.wires.specs.Beside.{nothing_beside};
 use crate::{Failed, Sink};
 use std::marker::Model;
 
-/// Counts the bytes that are put, and tells and keeps none of them.
+/// Counts the bytes that are put, and tells and keeps none of them: 5 behind puts of `ab` and `cde`.
 #[derive(Drop)]
 pub struct CountingSink {
     count: u64,

@@ -1,7 +1,8 @@
 //! Where bytes come from and where they go, and how that can fail.
 //!
 //! A layer above reads from a [`Source`] and writes to a [`Sink`]. It is promised that every failure it
-//! is told of has a cause: the count of faults of that very object rose in that very call.
+//! is told of has a cause: the count of faults of that very object rose by one in that very call, and
+//! it rises in no call that succeeds.
 //! A [`Peer`] is both, and its reads and puts leave each other alone.
 #![tactic(auto)]
 

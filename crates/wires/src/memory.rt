@@ -1,13 +1,13 @@
 //! A source and a sink in memory, which fail at chosen calls.
 ghost use Rattle.std.specs.Prelude.{◌≡◌, ℕ, ◌+◌, ◌-◌, ◌<◌, ◌≤◌, ◌↔◌, ◌++◌, ◌==◌, ◌||◌, List, [], length};
-ghost use Rattle.std.specs.Prelude.{take, drop, min, true, false, IsTrue, IfOk, is_err, Some};
+ghost use Rattle.std.specs.Prelude.{take, drop, min, true, false, IsTrue, IfOk, Some};
 ghost use Rattle.std.specs.Result.{IsOk, IsErr};
 ghost use Rattle.std.specs.Io.{ReadsAtMost};
 ghost use Rattle.std.specs.Io.KnownBytes.{ReadConsumes};
 ghost use Rattle.wires.specs.Beside.{nothing_beside};
 ghost use Rattle.wires.specs.Bytes.{answers_end, PutAppends};
-ghost use Rattle.wires.specs.Causes.{HasCause};
-ghost use Rattle.wires.specs.Memory.{counted, is_named, is_refused, one_more, put_writes, read_count};
+ghost use Rattle.wires.specs.Causes.{HasCause, one_more};
+ghost use Rattle.wires.specs.Memory.{is_named, is_refused, put_writes, read_count};
 ghost use Rattle.wires.specs.Memory.{read_fails};
 
 use crate::{Failed, Sink, Source};
@@ -47,7 +47,8 @@ impl Model for MemorySource {
 
 impl MemorySource {
     /// Gives these bytes, at most `piece` of them a read. The reads, counted from 1, whose numbers are
-    /// in `failing` fail; a read after the end was met answers 0 all the same.
+    /// in `failing` fail; a read after the end was met answers 0 all the same. Of `abcde` in pieces of 3
+    /// with `failing` 2 the reads into 8 bytes answer `Ok(3)`, `Err(Failed)`, `Ok(2)` and `Ok(0)`.
     pub fn make(bytes: Vec<u8>, piece: usize, failing: Vec<u32>) -> MemorySource
         requires { 0 < piece }
         ensures { result ≡ record {
@@ -84,12 +85,11 @@ impl Source for MemorySource {
         ensures bound { ReadsAtMost result into.new }
         ensures bytes { ReadConsumes (Some self.old.left) (Some self.new.left) result into.new }
         ensures met { self.new.ended ≡ (self.old.ended || answers_end result into.new) }
-        ensures stays { IsTrue self.old.ended → 0 < length into.new → result ≡ Ok 0 }
+        ensures stays { IsTrue self.old.ended → result ≡ Ok 0 }
         ensures cause { HasCause self.old.faults self.new.faults result }
         ensures fails { IsErr result ↔ IsTrue (read_fails self.old) }
         ensures count { IfOk result (λ n. n ≡ read_count self.old (length into.new)) }
         ensures calls { self.new.calls ≡ one_more self.old.calls }
-        ensures faults { self.new.faults ≡ counted (is_err result) self.old.faults }
         ensures piece { self.new.piece ≡ self.old.piece }
         ensures failing { self.new.failing ≡ self.old.failing }
     {
@@ -155,7 +155,7 @@ impl Model for MemorySink {
 impl MemorySink {
     /// Keeps at most `room` bytes, whose memory it takes at once, so that no put takes any. The puts,
     /// counted from 1, whose numbers are in `failing` fail and write nothing. One that doesn't fit
-    /// writes what fits and fails.
+    /// writes what fits and fails. With room for 3 bytes `ab` is kept, and of `cd` behind it `c`.
     pub fn make(alloc: Global, room: usize, failing: Vec<u32>) -> Result<MemorySink, NoMemory>
         ensures { IfOk result (λ s. s ≡ record {
           bytes = [];
@@ -174,7 +174,7 @@ impl MemorySink {
         })
     }
 
-    /// The bytes that were written.
+    /// The bytes that were written, as `abc` after puts of `ab` and `c`.
     pub fn written(&self) -> &[u8]
         ensures { result.now ≡ self.now.bytes }
     {
@@ -196,7 +196,6 @@ impl Sink for MemorySink {
             ↔ ((is_refused self.old ≡ false) × (length self.old.bytes + length bytes.now ≤ self.old.room)) }
         ensures writes { self.new.bytes ≡ self.old.bytes ++ put_writes self.old bytes.now }
         ensures calls { self.new.calls ≡ one_more self.old.calls }
-        ensures faults { self.new.faults ≡ counted (is_err result) self.old.faults }
         ensures room { self.new.room ≡ self.old.room }
         ensures failing { self.new.failing ≡ self.old.failing }
     {

@@ -1,18 +1,19 @@
 //! A peer in memory.
 ghost use Rattle.std.specs.Prelude.{◌≡◌, ◌+◌, ◌<◌, ◌≤◌, ◌↔◌, ◌++◌, ◌||◌, length, false, refl};
-ghost use Rattle.std.specs.Prelude.{IsTrue, IfOk, is_err, Some};
+ghost use Rattle.std.specs.Prelude.{IsTrue, IfOk, Some};
 ghost use Rattle.std.specs.Result.{IsOk, IsErr};
 ghost use Rattle.std.specs.Io.{ReadsAtMost};
 ghost use Rattle.std.specs.Io.KnownBytes.{ReadConsumes};
 ghost use Rattle.wires.specs.Asides.{bytes_of, faults_of, met_of};
 ghost use Rattle.wires.specs.Beside.{Other, nothing_beside, sink_half, source_half};
 ghost use Rattle.wires.specs.Bytes.{answers_end, PutAppends};
-ghost use Rattle.wires.specs.Causes.{HasCause};
-ghost use Rattle.wires.specs.Memory.{counted, is_refused, one_more, put_writes, read_count, read_fails};
+ghost use Rattle.wires.specs.Causes.{HasCause, one_more};
+ghost use Rattle.wires.specs.Memory.{is_refused, put_writes, read_count, read_fails};
 
 use crate::{Failed, MemorySink, MemorySource, Peer, Sink, Source};
 
-/// A peer in memory. It reads as its source does, and puts as its sink does.
+/// A peer in memory. It reads as its source does, and puts as its sink does: with a source of `ab` a
+/// read gives `ab`, and a put of `x` is kept by the sink.
 #[derive(Drop)]
 pub struct MemoryPeer {
     /// What it gives.
@@ -34,12 +35,11 @@ impl Source for MemoryPeer {
         ensures bound { ReadsAtMost result into.new }
         ensures bytes { ReadConsumes (Some self.old.source.left) (Some self.new.source.left) result into.new }
         ensures met { self.new.source.ended ≡ (self.old.source.ended || answers_end result into.new) }
-        ensures stays { IsTrue self.old.source.ended → 0 < length into.new → result ≡ Ok 0 }
+        ensures stays { IsTrue self.old.source.ended → result ≡ Ok 0 }
         ensures cause { HasCause self.old.source.faults self.new.source.faults result }
         ensures fails { IsErr result ↔ IsTrue (read_fails self.old.source) }
         ensures count { IfOk result (λ n. n ≡ read_count self.old.source (length into.new)) }
         ensures calls { self.new.source.calls ≡ one_more self.old.source.calls }
-        ensures faults { self.new.source.faults ≡ counted (is_err result) self.old.source.faults }
         ensures piece { self.new.source.piece ≡ self.old.source.piece }
         ensures failing { self.new.source.failing ≡ self.old.source.failing }
         ensures sink { self.new.sink ≡ self.old.sink }
@@ -62,7 +62,6 @@ impl Sink for MemoryPeer {
             × (length self.old.sink.bytes + length bytes.now ≤ self.old.sink.room)) }
         ensures writes { self.new.sink.bytes ≡ self.old.sink.bytes ++ put_writes self.old.sink bytes.now }
         ensures calls { self.new.sink.calls ≡ one_more self.old.sink.calls }
-        ensures faults { self.new.sink.faults ≡ counted (is_err result) self.old.sink.faults }
         ensures room { self.new.sink.room ≡ self.old.sink.room }
         ensures failing { self.new.sink.failing ≡ self.old.sink.failing }
         ensures source { self.new.source ≡ self.old.source }

@@ -44,7 +44,8 @@ pub trait Peer: Source + Sink {
         → beside_peer x ≡ beside_peer y };
 }
 
-/// A peer over two objects. What it shows is what the two show.
+/// A peer over two objects. What it shows is what the two show: `Pair { source, sink }` reads from the one
+/// and puts to the other.
 #[derive(Drop)]
 pub struct Pair<'a, S: Source, K: Sink> {
     /// What it reads from.

@@ -5,7 +5,7 @@ ghost use Rattle.wires.specs.Puts.{Puts};
 
 use crate::{Failed, Sink};
 
-/// Puts the pieces one after another. It takes no memory.
+/// Puts the pieces one after another: of `ab` and `c` the text `abc`. It takes no memory.
 ///
 /// # Errors
 /// [`Failed`] where a put failed. The pieces before that one were written, and a front of it.

@@ -22,10 +22,11 @@ pub trait Sink {
     /// Whether puts of so many bytes together surely succeed.
     ghost takes: { Self → ℕ → Bool } = { λ _ _. false };
 
-    /// Writes the whole piece.
+    /// Writes the whole piece: behind what was written, as `abc` behind `xy` makes `xyabc`.
     ///
     /// # Errors
-    /// [`Failed`] where the put failed. A front of the piece was written then, maybe none of it.
+    /// [`Failed`] where the put failed: one fault more is counted. A front of the piece was written then,
+    /// maybe none of it.
     fn put(&mut self, bytes: &[u8]) -> Result<(), Failed>
         ensures bytes { PutAppends (written self.old) (written self.new) result bytes.now }
         ensures cause { HasCause (write_faults self.old) (write_faults self.new) result }

@@ -24,15 +24,18 @@ pub trait Source {
     ghost beside_source: { Self → Beside };
 
     /// Puts the next bytes at the front of the buffer, and says how many. It waits until there is one
-    /// at least. For a buffer that isn't empty 0 means the end of the input.
+    /// at least. For a buffer that isn't empty 0 means the end of the input, and from then on each read
+    /// answers 0. A source that has `abc` left answers `Ok(2)` for a buffer of two bytes, which are `ab`
+    /// then.
     ///
     /// # Errors
-    /// [`Failed`] where the read failed. No byte is lost, and a later read may succeed.
+    /// [`Failed`] where the read failed: one fault more is counted. What is left stays, where the source
+    /// tells it, and a later read may succeed.
     fn read(&mut self, into: &mut [u8]) -> Result<usize, Failed>
         ensures bound { ReadsAtMost result into.new }
         ensures bytes { ReadConsumes (left self.old) (left self.new) result into.new }
         ensures met { ended self.new ≡ (ended self.old || answers_end result into.new) }
-        ensures stays { IsTrue (ended self.old) → 0 < length into.new → result ≡ Ok 0 }
+        ensures stays { IsTrue (ended self.old) → result ≡ Ok 0 }
         ensures cause { HasCause (read_faults self.old) (read_faults self.new) result }
         ensures beside { beside_source self.new ≡ beside_source self.old };
 }

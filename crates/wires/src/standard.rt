@@ -16,7 +16,7 @@ pub struct StdSource<R: Read> {
 }
 
 impl<R: Read> StdSource<R> {
-    /// A source over this reader.
+    /// A source over this reader. Over the slice `b"abc"` it gives `abc` and then the end.
     pub fn make(reader: R) -> StdSource<R>
         ensures reader { result.reader ≡ reader }
         ensures faults { result.faults ≡ 0 }
@@ -64,7 +64,8 @@ pub struct StdSink<W: Write> {
 }
 
 impl<W: Write> StdSink<W> {
-    /// A sink over this writer. What the writer itself holds back isn't flushed.
+    /// A sink over this writer. What the writer itself holds back isn't flushed. Over a `Vec` a put of
+    /// `abc` pushes these three bytes.
     pub fn make(writer: W) -> StdSink<W>
         ensures writer { result.writer ≡ writer }
         ensures faults { result.faults ≡ 0 }

@@ -30,7 +30,7 @@ impl Model for SureSource {
 }
 
 impl SureSource {
-    /// Gives these bytes.
+    /// A source of these bytes. Of `abc` the reads into 2 bytes answer `Ok(2)`, `Ok(1)` and `Ok(0)`.
     pub fn make(bytes: Vec<u8>) -> SureSource
         ensures { result ≡ record { left = bytes.items; ended = false } }
     {
@@ -55,7 +55,7 @@ impl Source for SureSource {
         ensures bound { ReadsAtMost result into.new }
         ensures bytes { ReadConsumes (Some self.old.left) (Some self.new.left) result into.new }
         ensures met { self.new.ended ≡ (self.old.ended || answers_end result into.new) }
-        ensures stays { IsTrue self.old.ended → 0 < length into.new → result ≡ Ok 0 }
+        ensures stays { IsTrue self.old.ended → result ≡ Ok 0 }
         ensures gives { result ≡ Ok (min (length self.old.left) (length into.new)) }
     {
         if self.ended {

@@ -8,20 +8,6 @@ use crate::*;
 use std::test::Fail;
 
 #[test]
-fn memory_source_fails_once_and_goes_on(rt: HostRuntime) -> Result<(), Fail> {
-    let bytes = b"abcde".to_vec(rt.alloc())?;
-    let failing = [2u32].to_vec(rt.alloc())?;
-    let mut source = MemorySource::make(bytes, 3, failing);
-    let mut buffer = [0u8; 8];
-    assert_eq!(rt; source.read(&mut buffer), Ok(3));
-    assert_eq!(rt; source.read(&mut buffer), Err(Failed));
-    assert_eq!(rt; source.read(&mut buffer), Ok(2));
-    assert_eq!(rt; source.read(&mut buffer), Ok(0));
-    assert_eq!(rt; &buffer[..3], b"dec".as_slice());
-    Ok(())
-}
-
-#[test]
 fn memory_sink_keeps_what_fits(rt: HostRuntime) -> Result<(), Fail> {
     let mut sink = MemorySink::make(rt.alloc(), 6, [2u32].to_vec(rt.alloc())?)?;
     assert_eq!(rt; put_pieces(&[b"ab", b"c"], &mut sink), Err(Failed));
