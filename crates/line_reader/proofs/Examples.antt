@@ -1,17 +1,17 @@
 -- The definitions on a small example, by computing: a reader that took `ab\nc` and passed its first line.
 use Rattle.std.proofs.Common.{◌≡◌, [], false, true, Some, refl, codes, inl, inr}
 use Rattle.line_reader.specs.Ends.{IsOver}
-use Rattle.line_reader.specs.Held.{Held, ahead, IsOpen}
+use Rattle.line_reader.specs.Buffered.{Buffered, ahead, IsOpen}
 use Rattle.line_reader.specs.Passing.{Goes}
 
 -- before the first read, and after the first line
-abbrev at_first : Held
+abbrev at_first : Buffered
 at_first = record { bytes = []; taken = 0 }
 
-abbrev afterwards : Held
+abbrev afterwards : Buffered
 afterwards = record { bytes = codes "c"; taken = 4 }
 
--- what lies ahead is held or left
+-- what lies ahead is buffered or left
 ahead_afterwards : ahead afterwards (Some (codes "d")) ≡ Some (codes "cd")
 ahead_afterwards = refl
 

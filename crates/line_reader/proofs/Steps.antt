@@ -7,7 +7,8 @@ use Rattle.std.specs.declared.option.Option.{Option}
 use Rattle.std.specs.Io.KnownBytes.{Consumes, prepend_known}
 use Rattle.text_forms.specs.Lines.{NoFeed, front_of}
 use Rattle.line_reader.proofs.Fronts.{front_on}
-use Rattle.line_reader.specs.Held.{Held, ahead}
+use Rattle.line_reader.specs.declared.lines.TheConstants.{FRONT}
+use Rattle.line_reader.specs.Buffered.{Buffered, ahead}
 use Rattle.line_reader.specs.Passing.{Passes, Goes}
 
 -- no byte is passed at first
@@ -15,22 +16,22 @@ pub Consumes-none : (all : Option (List ℕ)) → Consumes all all []
 Consumes-none None = tt
 Consumes-none (Some bytes) = refl
 
--- bytes that were held are passed, behind those that were passed before
-pub Consumes-held : (all left : Option (List ℕ)) (held part more before : List ℕ) → held ≡ part ++ more
-    → Consumes all (prepend_known held left) before → Consumes all (prepend_known more left) (before ++ part)
-Consumes-held None left held part more before is p = tt
-Consumes-held (Some x) None held part more before is p = absurd p
-Consumes-held (Some x) (Some y) held part more before is p =
+-- bytes that were buffered are passed, behind those that were passed before
+pub Consumes-buffered : (all left : Option (List ℕ)) (buffered part more before : List ℕ) → buffered ≡ part ++ more
+    → Consumes all (prepend_known buffered left) before → Consumes all (prepend_known more left) (before ++ part)
+Consumes-buffered None left buffered part more before is p = tt
+Consumes-buffered (Some x) None buffered part more before is p = absurd p
+Consumes-buffered (Some x) (Some y) buffered part more before is p =
     p ∙ ap (λ h. before ++ (h ++ y)) is ∙ simp append_assoc
 
--- bytes are read when none is held
-pub Consumes-read : (all left after : Option (List ℕ)) (held before : List ℕ)
-    → Consumes all (prepend_known [] left) before → Consumes left after held
-    → Consumes all (prepend_known held after) before
-Consumes-read None left after held before p q = tt
-Consumes-read (Some x) None after held before p q = absurd p
-Consumes-read (Some x) (Some y) None held before p q = absurd q
-Consumes-read (Some x) (Some y) (Some z) held before p q = p ∙ ap (λ l. before ++ l) q
+-- bytes are read when none is buffered
+pub Consumes-read : (all left after : Option (List ℕ)) (buffered before : List ℕ)
+    → Consumes all (prepend_known [] left) before → Consumes left after buffered
+    → Consumes all (prepend_known buffered after) before
+Consumes-read None left after buffered before p q = tt
+Consumes-read (Some x) None after buffered before p q = absurd p
+Consumes-read (Some x) (Some y) None buffered before p q = absurd q
+Consumes-read (Some x) (Some y) (Some z) buffered before p q = p ∙ ap (λ l. before ++ l) q
 
 -- what one call passed follows what was passed before it
 pub Consumes-on : (all mid now : Option (List ℕ)) (before part : List ℕ)
@@ -42,15 +43,15 @@ Consumes-on (Some x) (Some y) (Some z) before part p q =
     p ∙ ap (λ l. before ++ l) q ∙ sym (append_assoc before part z)
 
 -- since the start a part of a line was passed, and this is its front
-pub record IsWithin (start : Held) (left0 : Option (List ℕ)) (held : Held) (left : Option (List ℕ))
+pub record IsWithin (start : Buffered) (left0 : Option (List ℕ)) (buffered : Buffered) (left : Option (List ℕ))
     (line : List ℕ) : Type 0 where
   pub before : List ℕ
   pub clean : NoFeed before
-  pub goes : Goes start left0 held left before
+  pub goes : Goes start left0 buffered left before
   pub front : line ≡ front_of before
 
 -- at the start nothing was passed
-pub begun : (start : Held) (left0 : Option (List ℕ)) (line : List ℕ) → line ≡ []
+pub begun : (start : Buffered) (left0 : Option (List ℕ)) (line : List ℕ) → line ≡ []
     → IsWithin start left0 start left0 line
 begun start left0 line none = record {
   before = [];
@@ -60,7 +61,7 @@ begun start left0 line none = record {
 }
 
 -- the part up to a line feed is passed, and the line is whole
-pub found : {start old : Held} {left0 left : Option (List ℕ)} {line : List ℕ} (new : Held) (part now : List ℕ)
+pub found : {start old : Buffered} {left0 left : Option (List ℕ)} {line : List ℕ} (new : Buffered) (part now : List ℕ)
     → IsWithin start left0 old left line
     → NoFeed part → old.bytes ≡ part ++ 10 ∷ new.bytes → new.taken ≡ old.taken → now ≡ front_of (line ++ part)
     → (l : List ℕ) × NoFeed l × Goes start left0 new left (l ++ 10 ∷ []) × (now ≡ front_of l)
@@ -69,7 +70,7 @@ found {start = start} {old = old} {left0 = left0} {left = left} new part now w f
     let all = ahead start left0 in
     let split : old.bytes ≡ (part ++ feed) ++ new.bytes = whole ∙ sym (append_assoc part feed new.bytes) in
     let more : Consumes all (ahead new left) (w.before ++ (part ++ feed)) =
-    Consumes-held all left old.bytes (part ++ feed) new.bytes w.before split w.goes.gone in
+    Consumes-buffered all left old.bytes (part ++ feed) new.bytes w.before split w.goes.gone in
     let count : new.taken + length start.bytes ≡ start.taken + length ((w.before ++ part) ++ feed) + length new.bytes =
     omega (
       arith,
@@ -90,8 +91,8 @@ found {start = start} {old = old} {left0 = left0} {left = left} new part now w f
       then ∙ ap (λ l. front_of (l ++ part)) w.front ∙ front_on w.before part,
     )
 
--- all that was held is passed, and the line goes on
-pub passed : {start old : Held} {left0 left : Option (List ℕ)} {line : List ℕ} (new : Held) (now : List ℕ)
+-- all that was buffered is passed, and the line goes on
+pub passed : {start old : Buffered} {left0 left : Option (List ℕ)} {line : List ℕ} (new : Buffered) (now : List ℕ)
     → IsWithin start left0 old left line
     → NoFeed old.bytes → new.bytes ≡ [] → new.taken ≡ old.taken → now ≡ front_of (line ++ old.bytes)
     → IsWithin start left0 new left now
@@ -103,20 +104,20 @@ passed {start = start} {old = old} {left0 = left0} {left = left} new now w free 
       before = w.before ++ old.bytes;
       clean = All-append (λ b. b ≡ 10 → ⊥) w.before old.bytes w.clean free;
       goes = record {
-        gone = Consumes-held (ahead start left0) left old.bytes old.bytes new.bytes w.before split w.goes.gone;
+        gone = Consumes-buffered (ahead start left0) left old.bytes old.bytes new.bytes w.before split w.goes.gone;
         count = count;
       };
       front = then ∙ ap (λ l. front_of (l ++ old.bytes)) w.front ∙ front_on w.before old.bytes;
     }
 
--- a read while nothing is held passes nothing more
-pub read_on : {start old : Held} {left0 left after : Option (List ℕ)} {line : List ℕ} (new : Held)
+-- a read while nothing is buffered passes nothing more
+pub read_on : {start old : Buffered} {left0 left after : Option (List ℕ)} {line : List ℕ} (new : Buffered)
     → IsWithin start left0 old left line → old.bytes ≡ []
     → Consumes left after new.bytes → new.taken ≡ old.taken + length new.bytes → IsWithin start left0 new after line
 read_on {start = start} {old = old} {left0 = left0} {left = left} {after = after} new w spent gone read =
     let all = ahead start left0 in
     let none : Consumes all (prepend_known [] left) w.before =
-    subst (λ held. Consumes all (prepend_known held left) w.before) spent w.goes.gone in record {
+    subst (λ buffered. Consumes all (prepend_known buffered left) w.before) spent w.goes.gone in record {
       before = w.before;
       clean = w.clean;
       goes = record {
@@ -126,9 +127,9 @@ read_on {start = start} {old = old} {left0 = left0} {left = left} {after = after
       front = w.front;
     }
 
--- a part of a line behind which nothing is held
-pub passes : {start held : Held} {left0 left : Option (List ℕ)} {line : List ℕ}
-    (w : IsWithin start left0 held left line) → held.bytes ≡ [] → Passes start left0 held left w.before
+-- a part of a line behind which nothing is buffered
+pub passes : {start buffered : Buffered} {left0 left : Option (List ℕ)} {line : List ℕ}
+    (w : IsWithin start left0 buffered left line) → buffered.bytes ≡ [] → Passes start left0 buffered left w.before
 passes w spent = record { clean = w.clean; goes = w.goes; spent = spent }
 
 -- only an empty list has no length
@@ -143,4 +144,4 @@ front_empty (b ∷ line) is = absurd (cc)
 
 -- only a line that isn't empty has a front that isn't empty
 pub front_some : (front line : List ℕ) → front ≡ front_of line → 0 < length front → 0 < length line
-front_some front line is some = omega (arith, some, ap length is, length-take 513 line)
+front_some front line is some = omega (arith, some, ap length is, length-take FRONT line)

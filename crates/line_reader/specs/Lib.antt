@@ -1,3 +1,3 @@
+pub mod Buffered
 pub mod Ends
-pub mod Held
 pub mod Passing

@@ -1,15 +1,17 @@
 //! The front of a line.
-ghost use Rattle.std.specs.Prelude.{◌≡◌, ℕ, ◌<◌, ◌≤◌, ◌++◌, [], length, false, IsTrue, IfOk};
+ghost use Rattle.std.specs.Prelude.{◌≡◌, ℕ, ◌+◌, ◌<◌, ◌≤◌, ◌++◌, [], length, false, IsTrue, IfOk};
 ghost use Rattle.text_forms.specs.Lines.{front_of};
+ghost use Rattle.text_forms.specs.declared.lines.TheConstants.{MOST_LINE_BYTES};
 
 use cut_model::NoMemory;
 use std::alloc::Global;
 use std::marker::Model;
+use text_forms::MOST_LINE_BYTES;
 
 /// The most bytes that are kept of a line: one more than a line may have, so that a longer one shows.
-pub(crate) const FRONT: usize = 513;
+pub(crate) const FRONT: usize = MOST_LINE_BYTES + 1;
 
-/// The front of a line: its first 513 bytes, or all of a shorter one, without its line feed.
+/// The front of a line: one byte more than a line may have, or all of a shorter one, without its line feed.
 #[derive(Drop)]
 pub struct Line {
     bytes: Vec<u8>,
@@ -17,12 +19,13 @@ pub struct Line {
 
 impl Model for Line {
     ghost use Rattle.std.specs.Prelude.{ℕ, ◌≤◌, List, vec_capacity, vec_len};
+    ghost use Rattle.line_reader.specs.declared.lines.TheConstants.{FRONT};
 
     ghost Value = { List ℕ };
 
     ghost view = { λ l. l.bytes.items };
 
-    ghost invariant = { λ l. (vec_len l.bytes ≤ 513) × (513 ≤ vec_capacity l.bytes) };
+    ghost invariant = { λ l. (vec_len l.bytes ≤ FRONT) × (FRONT ≤ vec_capacity l.bytes) };
 }
 
 impl Line {
@@ -35,10 +38,10 @@ impl Line {
         })
     }
 
-    /// The bytes of the front.
+    /// The bytes of the front: behind a `next_line` over `ab\nc` these are `ab`.
     pub fn bytes(&self) -> &[u8]
         ensures bytes { result.now ≡ self.now }
-        ensures most { length result.now ≤ 513 }
+        ensures most { length result.now ≤ MOST_LINE_BYTES + 1 }
     {
         self.bytes.as_slice()
     }

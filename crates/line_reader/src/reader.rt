@@ -5,6 +5,7 @@ ghost use Rattle.std.specs.Io.KnownBytes.{Consumes, Keeps};
 ghost use Rattle.text_forms.specs.Lines.{NoFeed, front_of};
 ghost use Rattle.wires.specs.Causes.{HasCause};
 ghost use Rattle.line_reader.specs.Ends.{IsOver};
+ghost use Rattle.line_reader.specs.declared.reader.TheConstants.{MOST_BYTES};
 
 use crate::Line;
 use crate::search::first_feed;
@@ -13,11 +14,11 @@ use std::alloc::Global;
 use std::marker::Model;
 use wires::{Failed, Source};
 
-// How many bytes are held at most.
-const BUFFER: usize = 65_536;
+/// The most bytes that a reader ever takes of a source.
+pub const MOST_BYTES: u64 = 1 << 30;
 
-// How many bytes are ever taken of a source at most.
-const LIMIT: u64 = 1 << 30;
+// The most bytes that are buffered.
+const BUFFER: usize = 65_536;
 
 /// What the next line of a source is.
 #[derive(Clone, Copy, PartialEq, Eq, Debug)]
@@ -28,13 +29,13 @@ pub enum Next {
     Last,
     /// No line: the input ended, and no byte was left.
     End,
-    /// No line: 2^30 bytes were taken, and there is no line feed among those that are left of them.
+    /// No line: [`MOST_BYTES`] bytes were taken, and there is no line feed among those that are left of them.
     TooMuch,
 }
 
-/// Reads the lines of a source one after another, and takes at most 2^30 bytes of it.
+/// Reads the lines of a source one after another, and takes at most [`MOST_BYTES`] bytes of it.
 ///
-/// It holds up to 65,536 bytes that it has read ahead, so one reader belongs to one source.
+/// It buffers up to 65,536 bytes that it has read ahead, so one reader belongs to one source.
 #[derive(Drop)]
 pub struct LineReader {
     buffer: Vec<u8>,
@@ -44,19 +45,20 @@ pub struct LineReader {
 }
 
 impl Model for LineReader {
-    ghost use Rattle.std.specs.Prelude.{◌-◌, ◌^◌, ◌<◌, ◌≤◌, take, drop, vec_len};
-    ghost use Rattle.line_reader.specs.Held.{Held};
+    ghost use Rattle.std.specs.Prelude.{◌-◌, ◌<◌, ◌≤◌, take, drop, vec_len};
+    ghost use Rattle.line_reader.specs.Buffered.{Buffered};
+    ghost use Rattle.line_reader.specs.declared.reader.TheConstants.{MOST_BYTES};
 
-    ghost Value = { Held };
+    ghost Value = { Buffered };
 
     ghost view = { λ r. record { bytes = take (r.to - r.from) (drop r.from r.buffer.items); taken = r.taken } };
 
-    ghost invariant = { λ r. (r.from ≤ r.to) × (r.to ≤ vec_len r.buffer) × (r.taken ≤ 2 ^ 30)
+    ghost invariant = { λ r. (r.from ≤ r.to) × (r.to ≤ vec_len r.buffer) × (r.taken ≤ MOST_BYTES)
         × (0 < vec_len r.buffer) };
 }
 
 impl LineReader {
-    ghost use Rattle.line_reader.specs.Held.{IsOpen};
+    ghost use Rattle.line_reader.specs.Buffered.{IsOpen};
     ghost use Rattle.line_reader.specs.Passing.{Reads};
 
     /// A reader that has read nothing yet.
@@ -71,7 +73,8 @@ impl LineReader {
         })
     }
 
-    /// Begins anew: what was read ahead is dropped, and the count of bytes begins at 0.
+    /// Begins anew: what was read ahead is dropped, and the count of bytes begins at 0. So a reader that
+    /// has buffered `cd` of one source gives the first line of another one.
     pub fn restart(&mut self)
         ensures { self.new ≡ record { bytes = []; taken = 0 } }
     {
@@ -81,15 +84,15 @@ impl LineReader {
     }
 
     fn is_spent(&self) -> bool
-        ensures spent { IsTrue result → self.now.taken ≡ 2 ^ 30 }
-        ensures not_spent { result ≡ false → self.now.taken < 2 ^ 30 }
+        ensures spent { IsTrue result → self.now.taken ≡ MOST_BYTES }
+        ensures not_spent { result ≡ false → self.now.taken < MOST_BYTES }
     {
-        self.taken == LIMIT
+        self.taken == MOST_BYTES
     }
 
-    // Reads once. Nothing was held before.
+    // Reads once. Nothing was buffered before.
     fn fill<S: Source>(&mut self, source: &mut S) -> Result<usize, Failed>
-        requires budget { self.old.taken < 2 ^ 30 }
+        requires budget { self.old.taken < MOST_BYTES }
         requires empty { self.old.bytes ≡ [] }
         ensures bytes { Consumes (S.left source.old) (S.left source.new) self.new.bytes }
         ensures count { IfOk result (λ n. (length self.new.bytes ≡ n) × (self.new.taken ≡ self.old.taken + n)) }
@@ -97,24 +100,20 @@ impl LineReader {
         ensures end { result ≡ Ok 0 → IsOver (S.ended source.new) (S.left source.new) }
         ensures some { IfOk result (λ n. 0 < n → S.ended source.new ≡ false) }
         ensures failed { OnErr result (S.ended source.new ≡ false) }
-        ensures most { self.new.taken ≤ 2 ^ 30 }
+        ensures most { self.new.taken ≤ MOST_BYTES }
         ensures cause { HasCause (S.read_faults source.old) (S.read_faults source.new) result }
         ensures beside { S.beside_source source.new ≡ S.beside_source source.old }
     {
-        let room = self.buffer.len().min((LIMIT - self.taken) as usize);
+        let room = self.buffer.len().min((MOST_BYTES - self.taken) as usize);
         self.from = 0;
         self.to = 0;
-        match read_front(source, &mut self.buffer, room) {
-            Ok(count) => {
-                self.to = count;
-                self.taken += count as u64;
-                Ok(count)
-            }
-            Err(fault) => Err(fault),
-        }
+        let count = read_front(source, &mut self.buffer, room)?;
+        self.to = count;
+        self.taken += count as u64;
+        Ok(count)
     }
 
-    // Passes what is held up to a line feed, or all of it, and says whether the feed was there.
+    // Passes what is buffered up to a line feed, or all of it, and says whether the feed was there.
     fn take_part(&mut self, line: &mut Line) -> bool
         ensures found { IsTrue result
             → (l : List ℕ) × NoFeed l × (self.old.bytes ≡ l ++ 10 ∷ self.new.bytes)
@@ -139,17 +138,19 @@ impl LineReader {
     }
 
     /// Passes the next line of the source, and puts its front into `line`. At [`Next::End`] and
-    /// [`Next::TooMuch`] the bytes that it leaves in `line` are no line.
+    /// [`Next::TooMuch`] the bytes that it leaves in `line` are no line. Over `ab\nc` it answers `Ok(Whole)`
+    /// with `ab`, then `Ok(Last)` with `c`, and then `Ok(End)`.
     ///
     /// # Errors
-    /// [`Failed`] where a read failed. The part of a line that was passed before is lost to later calls.
+    /// [`Failed`] where a read failed, at the first that does. The part of a line that was passed before is
+    /// lost to later calls.
     pub fn next_line<S: Source>(&mut self, source: &mut S, line: &mut Line) -> Result<Next, Failed>
         ensures reads { Reads self.old (S.left source.old) self.new (S.left source.new) (S.ended source.new) line.new
             result }
         ensures open { IsOpen self.old (S.ended source.old)
             → (result ≡ Ok Next.Whole) ⊎ (result ≡ Ok Next.TooMuch)
             → IsOpen self.new (S.ended source.new) }
-        ensures most { self.old.taken ≤ 2 ^ 30 → self.new.taken ≤ 2 ^ 30 }
+        ensures most { self.old.taken ≤ MOST_BYTES → self.new.taken ≤ MOST_BYTES }
         ensures cause { HasCause (S.read_faults source.old) (S.read_faults source.new) result }
         ensures beside { S.beside_source source.new ≡ S.beside_source source.old }
     {

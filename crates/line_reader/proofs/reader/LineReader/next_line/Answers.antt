@@ -70,7 +70,7 @@ loop-self-preserved g c =
       read_on c.fill.new.self w part.1 filled.bytes read,
       λ _. inr (filled.some some),
       λ _. filled.most,
-      omega (arith, c.loop-self.invariant.3, filled.cause.later),
+      filled.cause.still ∙ c.loop-self.invariant.3,
       filled.beside ∙ c.loop-self.invariant.4,
     )
 
