@@ -1,5 +1,5 @@
 -- What one part of a line does to what lies ahead.
-use Rattle.std.proofs.Common.{◌≡◌, ℕ, ◌+◌, ◌<◌, List, [], ◌∷◌, ◌++◌, length, None, Some, refl, sym, ap, ◌∙◌}
+use Rattle.std.proofs.Common.{◌≡◌, ℕ, ◌+◌, ◌<◌, List, [], ◌∷◌, ◌++◌, length, None, Some, Bool, false, Ok, Err, Result, refl, sym, ap, ◌∙◌}
 use Rattle.std.proofs.Common.{arith, append_assoc, subst, length-append}
 use Rattle.std.proofs.lemmas.List.{append-nil, length-take}
 use Rattle.std.proofs.lemmas.List.Elements.{All-append}
@@ -8,8 +8,11 @@ use Rattle.std.specs.Io.KnownBytes.{Consumes, prepend_known}
 use Rattle.text_forms.specs.Lines.{NoFeed, front_of}
 use Rattle.line_reader.proofs.Fronts.{front_on}
 use Rattle.line_reader.specs.declared.lines.TheConstants.{FRONT}
+use Rattle.line_reader.specs.declared.reader.Next.{Next}
+use Rattle.line_reader.specs.declared.reader.TheConstants.{MOST_BYTES}
+use Rattle.std.specs.Result.{IsErr}
 use Rattle.line_reader.specs.Buffered.{Buffered, ahead}
-use Rattle.line_reader.specs.Passing.{Passes, Goes}
+use Rattle.line_reader.specs.Passing.{Passes, Goes, Reads}
 
 -- no byte is passed at first
 pub Consumes-none : (all : Option (List ℕ)) → Consumes all all []
@@ -131,6 +134,14 @@ read_on {start = start} {old = old} {left0 = left0} {left = left} {after = after
 pub passes : {start buffered : Buffered} {left0 left : Option (List ℕ)} {line : List ℕ}
     (w : IsWithin start left0 buffered left line) → buffered.bytes ≡ [] → Passes start left0 buffered left w.before
 passes w spent = record { clean = w.clean; goes = w.goes; spent = spent }
+
+-- a read failed behind a part of a line
+pub failed : {E : Type 0} {start buffered : Buffered} {left0 left : Option (List ℕ)} {line : List ℕ} {ended : Bool}
+    (result : Result Next E) → IsErr result → IsWithin start left0 buffered left line
+    → buffered.bytes ≡ [] → ended ≡ false → buffered.taken < MOST_BYTES
+    → Reads start left0 buffered left ended line result
+failed (Ok next) is w spent unmet low = absurd (cc)
+failed (Err e) is w spent unmet low = (w.before, passes w spent, unmet, low)
 
 -- only an empty list has no length
 pub nothing : (xs : List ℕ) → length xs ≡ 0 → xs ≡ []

@@ -162,16 +162,12 @@ impl LineReader {
             if self.is_spent() {
                 return Ok(Next::TooMuch);
             }
-            match self.fill(source) {
-                Ok(0) => {
-                    return Ok(if line.is_empty() {
-                        Next::End
-                    } else {
-                        Next::Last
-                    });
-                }
-                Ok(_) => {}
-                Err(fault) => return Err(fault),
+            if self.fill(source)? == 0 {
+                return Ok(if line.is_empty() {
+                    Next::End
+                } else {
+                    Next::Last
+                });
             }
         }
     }

@@ -19,18 +19,3 @@ fn lines_of_a_source_in_pieces(rt: HostRuntime) -> Result<(), Fail> {
     assert_eq!(rt; reader.next_line(&mut source, &mut line), Ok(Next::End));
     Ok(())
 }
-
-#[test]
-fn a_failed_read_is_told(rt: HostRuntime) -> Result<(), Fail> {
-    let bytes = b"ab\ncd\n".to_vec(rt.alloc())?;
-    let failing = [2u32].to_vec(rt.alloc())?;
-    let mut source = MemorySource::make(bytes, 4, failing);
-    let mut reader = LineReader::make(rt.alloc())?;
-    let mut line = Line::make(rt.alloc())?;
-    assert_eq!(rt; reader.next_line(&mut source, &mut line), Ok(Next::Whole));
-    assert_eq!(rt;
-        reader.next_line(&mut source, &mut line),
-        Err(wires::Failed)
-    );
-    Ok(())
-}

@@ -5,7 +5,7 @@ use Rattle.std.proofs.lemmas.List.{append-nil}
 use Rattle.std.proofs.KnownBytes.{Appends-trans, Consumes-trans}
 use Rattle.std.specs.declared.option.Option.{Option}
 use Rattle.std.specs.Io.KnownBytes.{Consumes, Appends, prepend_known}
-use Rattle.line_reader.specs.Held.{Held, ahead, IsOpen}
+use Rattle.line_reader.specs.Buffered.{Buffered, ahead, IsOpen}
 use Rattle.line_reader.specs.Ends.{IsOver}
 use Rattle.line_reader.specs.Passing.{Goes, Passes}
 use Rattle.session.specs.Modes.{next_text, gives, Gives, IsQuiet, IsByeLine, IsServed}
@@ -31,7 +31,7 @@ Consumes-spent a left held bytes none p = subst (Consumes a left) (ap (λ h. byt
     (Consumes-held a left held bytes p)
 
 module _ (alone : Bool) (seen0 : List RecordView) (own0 : ℕ)
-    (left0 written0 left written now after_left : Option (List ℕ)) (ended met : Bool) (held held2 : Held)
+    (left0 written0 left written now after_left : Option (List ℕ)) (ended met : Bool) (held held2 : Buffered)
     (records after : List RecordView) (own own2 : ℕ) (open_text : Option (List (List ℕ)))
     (s : SoFar alone seen0 own0 left0 written0 held left ended written records own open_text) where
   -- the session ends where these items, the last of the whole items, are answered by what was written
@@ -258,7 +258,7 @@ module _ (alone : Bool) (seen0 : List RecordView) (own0 : ℕ)
       }
 
 module _ (alone : Bool) (seen0 : List RecordView) (own0 : ℕ)
-    (left0 written0 left written now after_left : Option (List ℕ)) (ended met : Bool) (held held2 : Held)
+    (left0 written0 left written now after_left : Option (List ℕ)) (ended met : Bool) (held held2 : Buffered)
     (records after : List RecordView) (own own2 : ℕ) (reply : List ℕ)
     (s : SoFar alone seen0 own0 left0 written0 held left ended written records own None)
     (given : Gives alone records own (Bye ∷ []) reply after own2) where

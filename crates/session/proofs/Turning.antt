@@ -4,7 +4,7 @@ use Rattle.std.proofs.Common.{Bool, false, refl, sym, ap, ◌∙◌, arith, subs
 use Rattle.std.proofs.KnownBytes.{Appends-trans, Appends-nil}
 use Rattle.std.specs.declared.option.Option.{Option}
 use Rattle.std.specs.Io.KnownBytes.{Consumes, Appends, prepend_known}
-use Rattle.line_reader.specs.Held.{Held, IsOpen}
+use Rattle.line_reader.specs.Buffered.{Buffered, IsOpen}
 use Rattle.line_reader.specs.Ends.{IsOver}
 use Rattle.line_reader.specs.Passing.{Goes, Passes}
 use Rattle.session.specs.Modes.{next_text, Gives}
@@ -20,7 +20,7 @@ use Rattle.text_forms.specs.Lines.{NoFeed, front_of}
 use Rattle.tree_versions.specs.Records.{RecordView}
 
 -- at the start nothing was taken or written
-pub start : (alone : Bool) (records : List RecordView) (own : ℕ) (left written : Option (List ℕ)) (held : Held)
+pub start : (alone : Bool) (records : List RecordView) (own : ℕ) (left written : Option (List ℕ)) (held : Buffered)
     (ended : Bool) (intake : Intake) → held.bytes ≡ [] → held.taken ≡ 0 → Holds intake None
     → GoesOn alone records own left written held left ended written records own intake
 start alone records own left written held ended intake fresh none between = record {
@@ -42,12 +42,12 @@ start alone records own left written held ended intake fresh none between = reco
     nothing (Some bytes) = refl
 
 -- an end that wasn't met before stays open where something was taken
-pub unmet_at : (held : Held) (ended : Bool) → 0 < held.taken → IsOpen held ended → ended ≡ false
+pub unmet_at : (held : Buffered) (ended : Bool) → 0 < held.taken → IsOpen held ended → ended ≡ false
 unmet_at held ended some (inl none) = absurd (omega arith)
 unmet_at held ended some (inr unmet) = unmet
 
 module _ (alone : Bool) (seen0 : List RecordView) (own0 : ℕ)
-    (left0 written0 left after_left before now : Option (List ℕ)) (ended met : Bool) (held held2 : Held)
+    (left0 written0 left after_left before now : Option (List ℕ)) (ended met : Bool) (held held2 : Buffered)
     (records after : List RecordView) (own own2 : ℕ) (intake next : Intake)
     (g : GoesOn alone seen0 own0 left0 written0 held left ended before records own intake) where
   -- between two items a session so far has no open text

@@ -2,7 +2,7 @@
 use Rattle.std.specs.Prelude.{◌≡◌, ℕ, ◌+◌, ◌^◌, ◌<◌, ◌≤◌, ◌⊎◌, take, List, ◌∷◌, [], ◌++◌, length, Bool, false}
 use Rattle.std.specs.Io.KnownBytes.{Consumes, Appends}
 use Rattle.std.specs.declared.option.Option.{Option}
-use Rattle.line_reader.specs.Held.{Held, ahead, IsOpen}
+use Rattle.line_reader.specs.Buffered.{Buffered, ahead, IsOpen}
 use Rattle.line_reader.specs.Ends.{IsOver}
 use Rattle.session.specs.Answers.{Answers}
 use Rattle.session.specs.Modes.{IsReached, IsServed, Serves}
@@ -12,7 +12,7 @@ use Rattle.tree_versions.specs.Records.{RecordView, Grows}
 -- What was taken and written since the start of a session, and what lies ahead now. `left0` and `written0` are
 -- what the source had left and the sink had written then, `seen0` are the records that were seen and `own0` is how many
 -- were published.
-pub record SoFar (alone : Bool) (seen0 : List RecordView) (own0 : ℕ) (left0 written0 : Option (List ℕ)) (held : Held)
+pub record SoFar (alone : Bool) (seen0 : List RecordView) (own0 : ℕ) (left0 written0 : Option (List ℕ)) (held : Buffered)
     (left : Option (List ℕ)) (ended : Bool) (written : Option (List ℕ)) (records : List RecordView) (own : ℕ)
     (open_text : Option (List (List ℕ))) : Type 0 where
   pub bytes : List ℕ

@@ -3,7 +3,7 @@ use Rattle.std.specs.Prelude.{◌≡◌, ℕ, ◌⊎◌, take, List, [], ◌∷�
 use Rattle.std.specs.Prelude.{MatchResult}
 use Rattle.std.specs.Io.KnownBytes.{Appends}
 use Rattle.std.specs.declared.option.Option.{Option}
-use Rattle.line_reader.specs.Held.{Held}
+use Rattle.line_reader.specs.Buffered.{Buffered}
 use Rattle.session.specs.Modes.{Closing, Gives, IsByeLine}
 use Rattle.session.specs.Sessions.{SoFar, Breaks, EndsWhole, EndsShort, EndsLong}
 use Rattle.session.specs.Taking.{Holds, IsTaken}
@@ -70,7 +70,7 @@ pub record Closed {E : Type 0} (alone : Bool) (old : List RecordView) (own : ℕ
       (λ _. (count : ℕ) × Appends before after (take count owed))
 
 -- a session so far, with the text that is open
-pub record GoesOn (alone : Bool) (seen0 : List RecordView) (own0 : ℕ) (left0 written0 : Option (List ℕ)) (held : Held)
+pub record GoesOn (alone : Bool) (seen0 : List RecordView) (own0 : ℕ) (left0 written0 : Option (List ℕ)) (held : Buffered)
     (left : Option (List ℕ)) (ended : Bool) (written : Option (List ℕ)) (records : List RecordView) (own : ℕ)
     (intake : Intake) : Type 0 where
   pub open_text : Option (List (List ℕ))
@@ -90,7 +90,7 @@ EndsAs TooLong left0 written0 left ended written alone seen0 own0 records own =
     EndsLong left0 written0 left ended written alone seen0 own0 records own
 
 -- the session goes on, or has ended
-abbrev pub TurnGives : Bool → List RecordView → ℕ → Option (List ℕ) → Option (List ℕ) → Held → Option (List ℕ) → Bool
+abbrev pub TurnGives : Bool → List RecordView → ℕ → Option (List ℕ) → Option (List ℕ) → Buffered → Option (List ℕ) → Bool
     → Option (List ℕ) → List RecordView → ℕ → Intake → Option SessionEnd → Type 0
 TurnGives alone seen0 own0 left0 written0 held left ended written records own intake None =
     GoesOn alone seen0 own0 left0 written0 held left ended written records own intake

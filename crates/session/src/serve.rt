@@ -3,7 +3,7 @@ ghost use Rattle.std.specs.Prelude.{◌≡◌, ℕ, ◌+◌, ◌-◌, ◌^◌, �
 ghost use Rattle.std.specs.Prelude.{MatchResult, Ok, length};
 ghost use Rattle.std.specs.declared.option.Option.{Option};
 ghost use Rattle.line_reader.specs.Passing.{Passes, Reads};
-ghost use Rattle.line_reader.specs.Held.{Held, IsOpen};
+ghost use Rattle.line_reader.specs.Buffered.{Buffered, IsOpen};
 ghost use Rattle.line_reader.specs.Ends.{IsOver};
 ghost use Rattle.session.specs.Sessions.{Breaks, EndsWhole};
 ghost use Rattle.session.specs.Taking.{Holds, lines_in};
@@ -131,7 +131,7 @@ fn answer_last<H: Shelf, P: Peer>(
 ) -> Result<(), Failed>
     requires few { lines_in state.old.intake + 1 < 2 ^ 31 }
     ensures ends { (seen0 : List RecordView) (own0 : ℕ) (left0 written0 left after : Option (List ℕ))
-        (held held2 : Held)
+        (held held2 : Buffered)
         (ended met : Bool) (l : List ℕ)
         → GoesOn (H.alone shelf.old) seen0 own0 left0 written0 held left ended (P.written peer.old)
         (H.seen shelf.old) (H.own shelf.old) state.old.intake

@@ -1,5 +1,5 @@
 use Rattle.std.proofs.Common.{arith, ◌≡◌, ◌<◌, ◌+◌, ◌∙◌, length, refl, ap, sym, [], Ok, inl, inr, subst}
-use Rattle.line_reader.proofs.Steps.{begun, found, passed, read_on, passes, nothing, front_empty, front_some}
+use Rattle.line_reader.proofs.Steps.{begun, failed, found, passed, read_on, passes, nothing, front_empty, front_some}
 use Rattle.line_reader.specs.Passing.{Passes}
 use Rattle.line_reader.proofs.reader.LineReader.next_line.Goals as goal
 
@@ -32,8 +32,8 @@ pub returns-then-is_empty-clause-reads : goal.returns-then-is_empty-clause-reads
 returns-then-is_empty-clause-reads g c =
     let part = c.if-take_part.ensures.all refl in
     let w = passed c.take_part.new.self _ c.loop-self.invariant.0 part.0 part.1 c.if-take_part.ensures.taken part.2 in
-    let filled = c.in-Ok-eq0.ensures in
-    let zero = c.in-Ok-eq0.field-0-test in
+    let filled = c.in_ok-fill.ensures in
+    let zero = c.if-branch-eq0.true in
     let none = nothing c.fill.new.self.bytes (filled.count.0 ∙ zero) in
     let read : c.fill.new.self.taken ≡ c.take_part.new.self.taken + length c.fill.new.self.bytes =
     omega (arith, filled.count.0, filled.count.1) in
@@ -50,8 +50,8 @@ pub returns-else-is_empty-clause-reads : goal.returns-else-is_empty-clause-reads
 returns-else-is_empty-clause-reads g c =
     let part = c.if-take_part.ensures.all refl in
     let w = passed c.take_part.new.self _ c.loop-self.invariant.0 part.0 part.1 c.if-take_part.ensures.taken part.2 in
-    let filled = c.in-Ok-eq0.ensures in
-    let zero = c.in-Ok-eq0.field-0-test in
+    let filled = c.in_ok-fill.ensures in
+    let zero = c.if-branch-eq0.true in
     let none = nothing c.fill.new.self.bytes (filled.count.0 ∙ zero) in
     let read : c.fill.new.self.taken ≡ c.take_part.new.self.taken + length c.fill.new.self.bytes =
     omega (arith, filled.count.0, filled.count.1) in
@@ -63,10 +63,10 @@ pub loop-self-preserved : goal.loop-self-preserved
 loop-self-preserved g c =
     let part = c.if-take_part.ensures.all refl in
     let w = passed c.take_part.new.self _ c.loop-self.invariant.0 part.0 part.1 c.if-take_part.ensures.taken part.2 in
-    let filled = c.in-Ok.ensures in
+    let filled = c.in_ok-fill.ensures in
     let read : c.fill.new.self.taken ≡ c.take_part.new.self.taken + length c.fill.new.self.bytes =
     omega (arith, filled.count.0, filled.count.1) in
-    let some : 0 < c.in-Ok.field-0 = omega arith in (
+    let some : 0 < c.in_ok-fill.field-0 = omega (arith, c.if-branch-eq0.false) in (
       read_on c.fill.new.self w part.1 filled.bytes read,
       λ _. inr (filled.some some),
       λ _. filled.most,
@@ -74,13 +74,14 @@ loop-self-preserved g c =
       filled.beside ∙ c.loop-self.invariant.4,
     )
 
-pub returns-in-Err-clause-reads : goal.returns-in-Err-clause-reads
-returns-in-Err-clause-reads g c =
+pub returns-in_err-fill-clause-reads : goal.returns-in_err-fill-clause-reads
+returns-in_err-fill-clause-reads g c =
     let part = c.if-take_part.ensures.all refl in
     let w = passed c.take_part.new.self _ c.loop-self.invariant.0 part.0 part.1 c.if-take_part.ensures.taken part.2 in
-    let none = c.in-Err.ensures.none in
+    let none = c.in_err-fill.ensures.none in
     let read : c.fill.new.self.taken ≡ c.take_part.new.self.taken + length c.fill.new.self.bytes =
     omega (arith, ap length none.0, none.1) in
-    let end = read_on c.fill.new.self w part.1 c.in-Err.ensures.bytes read in
+    let end = read_on c.fill.new.self w part.1 c.in_err-fill.ensures.bytes read in
     let low = c.if-is_spent.ensures.not_spent refl in
-    (end.before, passes end none.0, c.in-Err.ensures.failed, omega (arith, none.1, low))
+    let end_of = c.from_residual in
+    failed end_of.result end_of.ensures.0 end none.0 c.in_err-fill.ensures.failed (omega (arith, none.1, low))
