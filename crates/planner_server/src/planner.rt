@@ -26,7 +26,7 @@ struct Desk {
 impl Desk {
     /// Takes all memory that a run needs beside that of the texts that it loads.
     fn make(alloc: Global) -> Result<Desk, NoMemory>
-        ensures { IfOk result (λ desk. views_of desk.shelf.records.items ≡ []) }
+        ensures { IfOk result (λ desk. desk.shelf.records ≡ []) }
     {
         Ok(Desk {
             session: Session::make(alloc, 1)?,
@@ -79,12 +79,12 @@ fn serve_both<S: Source, K: Sink>(
     source: &mut S,
     sink: &mut K,
 ) -> SessionEnd
-    requires none { views_of shelf.old.records.items ≡ [] }
+    requires none { shelf.old.records ≡ [] }
     ensures ends { RunEndsAs result (S.left source.old) (K.written sink.old) (S.left source.new) (S.ended source.new)
-        (K.written sink.new) (views_of shelf.new.records.items) }
-    ensures few { length (views_of shelf.new.records.items) ≤ 256 }
-    ensures runs { AreFinished (views_of shelf.new.records.items) }
-    ensures trees { AreCutTrees (views_of shelf.new.records.items) }
+        (K.written sink.new) shelf.new.records }
+    ensures few { length shelf.new.records ≤ 256 }
+    ensures runs { AreFinished shelf.new.records }
+    ensures trees { AreCutTrees shelf.new.records }
     ensures read_fault { result ≡ SessionEnd.ReadFault → Rose (S.read_faults source.old) (S.read_faults source.new) }
     ensures write_fault { result ≡ SessionEnd.WriteFault → Rose (K.write_faults sink.old) (K.write_faults sink.new) }
     ensures completes { (bytes : List ℕ) → S.left source.old ≡ Some bytes → length bytes < 2 ^ 30

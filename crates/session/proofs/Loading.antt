@@ -19,7 +19,7 @@ use Rattle.session.proofs.Answering.{look_leads, Gives-one, Gives-still}
 use Rattle.text_forms.specs.Items.{Item, Load}
 use Rattle.text_forms.specs.Words.{is_end}
 use Rattle.tree_versions.specs.Records.{RecordView}
-use Rattle.tree_versions.specs.Shelves.{Looks, Stands, IsFull}
+use Rattle.tree_versions.specs.Shelves.{Looks, IsFull, IsPublishedAt}
 
 module _ (alone : Bool) (old new : List RecordView) (own own2 : ℕ) (reply : List ℕ) (few : length new ≤ 256)
     (looks : Looks alone old new) (kept : own2 ≡ own) where
@@ -67,7 +67,7 @@ full_loads alone old new own own2 reply sheet full kept told = record {
 
 -- a record was published, and the reply has its version
 pub stands_loads : (alone : Bool) (old new : List RecordView) (own own2 : ℕ) (reply : List ℕ) (added : RecordView)
-    (version : ℕ) → length new ≤ 256 → Stands alone old new added version → own2 ≡ own + 1
+    (version : ℕ) → length new ≤ 256 → IsPublishedAt alone old new added version → own2 ≡ own + 1
     → reply ≡ loaded_text version added.sheet.net
     → Loads alone old own (Ok added.sheet) reply new own2
 stands_loads alone old new own own2 reply added version few stands counted told = record {

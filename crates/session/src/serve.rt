@@ -74,7 +74,7 @@ fn answer_line<H: Shelf, P: Peer>(
 ) -> Result<bool, Failed>
     requires few { lines_in state.old.intake < 2 ^ 31 }
     ensures answered { (open_text : Option (List (List ℕ))) → Holds state.old.intake open_text
-        → LineAnswered (H.alone shelf.old) (H.seen shelf.old) (H.own shelf.old) (H.seen shelf.new) (H.own shelf.new)
+        → LineAnswered (H.alone shelf.old) (H.seen shelf.old) (H.published shelf.old) (H.seen shelf.new) (H.published shelf.new)
         open_text state.new.intake line.now (P.written peer.old) (P.written peer.new) result }
     ensures lines { lines_in state.new.intake ≤ lines_in state.old.intake + 1 }
     ensures alone { H.alone shelf.new ≡ H.alone shelf.old }
@@ -105,7 +105,7 @@ fn close_input<H: Shelf, P: Peer>(
 ) -> Result<(), Failed>
     requires few { lines_in state.old.intake < 2 ^ 31 }
     ensures closed { (open_text : Option (List (List ℕ))) → Holds state.old.intake open_text
-        → Closed (H.alone shelf.old) (H.seen shelf.old) (H.own shelf.old) (H.seen shelf.new) (H.own shelf.new)
+        → Closed (H.alone shelf.old) (H.seen shelf.old) (H.published shelf.old) (H.seen shelf.new) (H.published shelf.new)
         open_text (P.written peer.old) (P.written peer.new) result }
     ensures alone { H.alone shelf.new ≡ H.alone shelf.old }
     ensures cause { HasCause (P.write_faults peer.old) (P.write_faults peer.new) result }
@@ -134,13 +134,13 @@ fn answer_last<H: Shelf, P: Peer>(
         (held held2 : Buffered)
         (ended met : Bool) (l : List ℕ)
         → GoesOn (H.alone shelf.old) seen0 own0 left0 written0 held left ended (P.written peer.old)
-        (H.seen shelf.old) (H.own shelf.old) state.old.intake
+        (H.seen shelf.old) (H.published shelf.old) state.old.intake
         → Passes held left held2 after l → 0 < length l → line.now ≡ front_of l → IsOver met after
         → MatchResult result
         (λ _. EndsWhole left0 written0 after met (P.written peer.new) (H.alone shelf.old) seen0 own0
-        (H.seen shelf.new) (H.own shelf.new))
+        (H.seen shelf.new) (H.published shelf.new))
         (λ _. Breaks left0 written0 after met (P.written peer.new) (H.alone shelf.old) seen0 own0
-        (H.seen shelf.new) (H.own shelf.new)) }
+        (H.seen shelf.new) (H.published shelf.new)) }
     ensures alone { H.alone shelf.new ≡ H.alone shelf.old }
     ensures cause { HasCause (P.write_faults peer.old) (P.write_faults peer.new) result }
     ensures left { P.left peer.new ≡ P.left peer.old }
@@ -168,9 +168,9 @@ fn turn<H: Shelf, P: Peer>(
     requires counted { lines_in state.old.intake + length reader.old.bytes ≤ reader.old.taken }
     ensures gives { (seen0 : List RecordView) (own0 : ℕ) (left0 written0 : Option (List ℕ))
         → GoesOn (H.alone shelf.old) seen0 own0 left0 written0 reader.old (P.left peer.old) (P.ended peer.old)
-        (P.written peer.old) (H.seen shelf.old) (H.own shelf.old) state.old.intake
+        (P.written peer.old) (H.seen shelf.old) (H.published shelf.old) state.old.intake
         → TurnGives (H.alone shelf.old) seen0 own0 left0 written0 reader.new (P.left peer.new) (P.ended peer.new)
-        (P.written peer.new) (H.seen shelf.new) (H.own shelf.new) state.new.intake result }
+        (P.written peer.new) (H.seen shelf.new) (H.published shelf.new) state.new.intake result }
     ensures alone { H.alone shelf.new ≡ H.alone shelf.old }
     ensures read_fault { result ≡ Some SessionEnd.ReadFault → Rose (P.read_faults peer.old) (P.read_faults peer.new) }
     ensures write_fault { result ≡ Some SessionEnd.WriteFault
@@ -216,8 +216,8 @@ pub fn serve<H: Shelf, P: Peer>(
     requires between { Holds state.old.intake None }
     requires no_line { lines_in state.old.intake ≡ 0 }
     ensures ends { EndsAs result (P.left peer.old) (P.written peer.old) (P.left peer.new) (P.ended peer.new)
-        (P.written peer.new) (H.alone shelf.old) (H.seen shelf.old) (H.own shelf.old)
-        (H.seen shelf.new) (H.own shelf.new) }
+        (P.written peer.new) (H.alone shelf.old) (H.seen shelf.old) (H.published shelf.old)
+        (H.seen shelf.new) (H.published shelf.new) }
     ensures alone { H.alone shelf.new ≡ H.alone shelf.old }
     ensures read_fault { result ≡ SessionEnd.ReadFault → Rose (P.read_faults peer.old) (P.read_faults peer.new) }
     ensures write_fault { result ≡ SessionEnd.WriteFault → Rose (P.write_faults peer.old) (P.write_faults peer.new) }

@@ -56,8 +56,8 @@ pub fn serve_session<H: Shelf, P: Peer>(
     // What was written answers the items that were read. What is seen begins with what was seen, and so many
     // records were published as there were accepted LOADs.
     ensures ends { EndsAs result (P.left peer.old) (P.written peer.old) (P.left peer.new) (P.ended peer.new)
-        (P.written peer.new) (H.alone shelf.old) (H.seen shelf.old) (H.own shelf.old)
-        (H.seen shelf.new) (H.own shelf.new) }
+        (P.written peer.new) (H.alone shelf.old) (H.seen shelf.old) (H.published shelf.old)
+        (H.seen shelf.new) (H.published shelf.new) }
     ensures alone { H.alone shelf.new ≡ H.alone shelf.old }
 
     // Where the peer tells that it has fewer than 2^30 bytes left, and doesn't fail, the session is done.

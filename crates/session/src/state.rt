@@ -114,7 +114,7 @@ impl State {
     fn refuse_load<H: Shelf>(&mut self, shelf: &mut H, number: u32, line: Option<u32>)
         ensures looks { Looks (H.alone shelf.old) (H.seen shelf.old) (H.seen shelf.new) }
         ensures reply { self.new.reply ≡ refused_text (length (H.seen shelf.new)) number line }
-        ensures own { H.own shelf.new ≡ H.own shelf.old }
+        ensures published { H.published shelf.new ≡ H.published shelf.old }
         ensures alone { H.alone shelf.new ≡ H.alone shelf.old }
         ensures intake { self.new.intake ≡ self.old.intake }
     {
@@ -128,7 +128,7 @@ impl State {
         ensures reply { IsTextRefusal (length (H.seen shelf.new)) fault self.new.reply }
         ensures lost { fault.kind ≡ TextKind.Memory
             → self.new.reply ≡ refused_text (length (H.seen shelf.new)) 90 None }
-        ensures own { H.own shelf.new ≡ H.own shelf.old }
+        ensures published { H.published shelf.new ≡ H.published shelf.old }
         ensures alone { H.alone shelf.new ≡ H.alone shelf.old }
         ensures intake { self.new.intake ≡ self.old.intake }
     {
@@ -145,7 +145,7 @@ impl State {
     pub fn take_line<H: Shelf>(&mut self, alloc: Global, shelf: &mut H, line: &[u8]) -> Taken
         requires few { lines_in self.old.intake < 2 ^ 31 }
         ensures taken { (open_text : Option (List (List ℕ))) → Holds self.old.intake open_text
-            → LineTaken (H.alone shelf.old) (H.seen shelf.old) (H.own shelf.old) (H.seen shelf.new) (H.own shelf.new)
+            → LineTaken (H.alone shelf.old) (H.seen shelf.old) (H.published shelf.old) (H.seen shelf.new) (H.published shelf.new)
             open_text self.new.intake line.now self.new.reply result }
         ensures lines { lines_in self.new.intake ≤ lines_in self.old.intake + 1 }
         ensures alone { H.alone shelf.new ≡ H.alone shelf.old }
@@ -160,8 +160,8 @@ impl State {
     /// Takes a line between two items: it looks at the shelf once, and answers from the last record.
     fn take_request<H: Shelf>(&mut self, alloc: Global, shelf: &mut H, line: &[u8]) -> Taken
         requires between { Holds self.old.intake None }
-        ensures taken { LineTaken (H.alone shelf.old) (H.seen shelf.old) (H.own shelf.old) (H.seen shelf.new)
-            (H.own shelf.new) None self.new.intake line.now self.new.reply result }
+        ensures taken { LineTaken (H.alone shelf.old) (H.seen shelf.old) (H.published shelf.old) (H.seen shelf.new)
+            (H.published shelf.new) None self.new.intake line.now self.new.reply result }
         ensures no_line { lines_in self.new.intake ≡ 0 }
         ensures alone { H.alone shelf.new ≡ H.alone shelf.old }
     {
@@ -220,7 +220,7 @@ impl State {
         requires open { IsFalse reader.ended }
         requires few { reader.progress.lines < 2 ^ 31 }
         ensures taken { (text : List (List ℕ)) → Holds (Intake.Text reader) (Some text)
-            → LineTaken (H.alone shelf.old) (H.seen shelf.old) (H.own shelf.old) (H.seen shelf.new) (H.own shelf.new)
+            → LineTaken (H.alone shelf.old) (H.seen shelf.old) (H.published shelf.old) (H.seen shelf.new) (H.published shelf.new)
             (Some text) self.new.intake line.now self.new.reply result }
         ensures lines { lines_in self.new.intake ≤ reader.progress.lines + 1 }
         ensures alone { H.alone shelf.new ≡ H.alone shelf.old }
@@ -241,7 +241,7 @@ impl State {
     /// Takes a line of a text that is passed over.
     fn take_lost<H: Shelf>(&mut self, shelf: &mut H, line: &[u8]) -> Taken
         ensures taken { (text : List (List ℕ))
-            → LineTaken (H.alone shelf.old) (H.seen shelf.old) (H.own shelf.old) (H.seen shelf.new) (H.own shelf.new)
+            → LineTaken (H.alone shelf.old) (H.seen shelf.old) (H.published shelf.old) (H.seen shelf.new) (H.published shelf.new)
             (Some text) self.new.intake line.now self.new.reply result }
         ensures no_line { lines_in self.new.intake ≡ 0 }
         ensures alone { H.alone shelf.new ≡ H.alone shelf.old }
@@ -260,8 +260,8 @@ impl State {
     fn end_text<H: Shelf>(&mut self, alloc: Global, shelf: &mut H, reader: Reader)
         requires few { reader.progress.lines < 2 ^ 31 }
         ensures loads { (text : List (List ℕ)) → HasRead reader.progress text
-            → Loads (H.alone shelf.old) (H.seen shelf.old) (H.own shelf.old) (verdict_of text reader.ended)
-            self.new.reply (H.seen shelf.new) (H.own shelf.new) }
+            → Loads (H.alone shelf.old) (H.seen shelf.old) (H.published shelf.old) (verdict_of text reader.ended)
+            self.new.reply (H.seen shelf.new) (H.published shelf.new) }
         ensures alone { H.alone shelf.new ≡ H.alone shelf.old }
     {
         match reader.close() {
@@ -275,8 +275,8 @@ impl State {
         requires open { IsFalse reader.ended }
         requires few { reader.progress.lines < 2 ^ 31 }
         ensures owed { (text : List (List ℕ)) → HasRead reader.progress text
-            → Closing (H.alone shelf.old) (H.seen shelf.old) (H.own shelf.old) (Some text) self.new.reply
-            (H.seen shelf.new) (H.own shelf.new) }
+            → Closing (H.alone shelf.old) (H.seen shelf.old) (H.published shelf.old) (Some text) self.new.reply
+            (H.seen shelf.new) (H.published shelf.new) }
         ensures alone { H.alone shelf.new ≡ H.alone shelf.old }
     {
         match reader.close() {
@@ -288,8 +288,8 @@ impl State {
     /// Builds the tree of a sheet's network, and publishes both as a record, where there is room and
     /// memory for it.
     fn publish<H: Shelf>(&mut self, alloc: Global, shelf: &mut H, sheet: Sheet)
-        ensures loads { Loads (H.alone shelf.old) (H.seen shelf.old) (H.own shelf.old) (Ok sheet) self.new.reply
-            (H.seen shelf.new) (H.own shelf.new) }
+        ensures loads { Loads (H.alone shelf.old) (H.seen shelf.old) (H.published shelf.old) (Ok sheet) self.new.reply
+            (H.seen shelf.new) (H.published shelf.new) }
         ensures alone { H.alone shelf.new ≡ H.alone shelf.old }
     {
         match self.make_record(alloc, sheet) {
@@ -308,8 +308,8 @@ impl State {
 
     /// Publishes a record, and makes the reply by its version.
     fn publish_record<H: Shelf>(&mut self, shelf: &mut H, new: Arc<Record>)
-        ensures loads { Loads (H.alone shelf.old) (H.seen shelf.old) (H.own shelf.old) (Ok (arc_value new).sheet)
-            self.new.reply (H.seen shelf.new) (H.own shelf.new) }
+        ensures loads { Loads (H.alone shelf.old) (H.seen shelf.old) (H.published shelf.old) (Ok (arc_value new).sheet)
+            self.new.reply (H.seen shelf.new) (H.published shelf.new) }
         ensures alone { H.alone shelf.new ≡ H.alone shelf.old }
     {
         match shelf.publish(new) {
@@ -335,8 +335,8 @@ impl State {
     pub fn close_input<H: Shelf>(&mut self, shelf: &mut H) -> bool
         requires few { lines_in self.old.intake < 2 ^ 31 }
         ensures owed { (open_text : Option (List (List ℕ))) → Holds self.old.intake open_text
-            → Closing (H.alone shelf.old) (H.seen shelf.old) (H.own shelf.old) open_text
-            (if result then self.new.reply else []) (H.seen shelf.new) (H.own shelf.new) }
+            → Closing (H.alone shelf.old) (H.seen shelf.old) (H.published shelf.old) open_text
+            (if result then self.new.reply else []) (H.seen shelf.new) (H.published shelf.new) }
         ensures alone { H.alone shelf.new ≡ H.alone shelf.old }
     {
         match mem::replace(&mut self.intake, Intake::Between) {

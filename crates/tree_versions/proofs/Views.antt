@@ -1,15 +1,19 @@
 -- What kept records show when one more stands behind them.
 use Rattle.std.proofs.Common.{◌≡◌, ℕ, zero, suc, ◌+◌, ◌-◌, ◌<◌, List, [], ◌∷◌, ◌++◌, length, Some, true, refl, sym, ap}
-use Rattle.std.proofs.Common.{◌∙◌, ◌≤◌, arith, length-append, subst}
-use Rattle.std.proofs.lemmas.List.Elements.{All-push}
+use Rattle.std.proofs.Common.{◌∙◌, ◌≤◌, arith, length-append}
 use Rattle.std.specs.Arc.{arc_value}
 use Rattle.std.specs.Option.{option_map}
-use Rattle.std.specs.Prelude.{All, slice_get, slice_index_or}
+use Rattle.std.specs.Prelude.{slice_get, slice_index_or}
 use Rattle.std.specs.declared.alloc.Global.{Global}
 use Rattle.std.specs.declared.sync.Arc.{Arc}
 use Rattle.tree_versions.specs.Records.{RecordView, record_at}
-use Rattle.tree_versions.specs.Shelves.{Stands}
-use Rattle.tree_versions.specs.Solo.{views_of, length-views}
+use Rattle.tree_versions.specs.Shelves.{IsPublishedAt}
+use Rattle.tree_versions.specs.Solo.{views_of}
+
+-- there are as many views as records
+pub length-views : (records : List (Arc RecordView Global)) → length (views_of records) ≡ length records
+length-views [] = refl
+length-views (r ∷ records) = ap suc (length-views records)
 
 -- the view at a place is that of the record at it
 slice_get-views : (records : List (Arc RecordView Global)) (i : ℕ)
@@ -55,9 +59,9 @@ slice_get-seam [] added = refl
 slice_get-seam (r ∷ records) added = slice_get-seam records added
 
 -- a record that was added to the views is the next one
-stands_next : (old new : List RecordView) (added : RecordView) (version : ℕ) → new ≡ old ++ added ∷ []
-    → version ≡ length new → Stands true old new added version
-stands_next old new added version is count =
+published_at-next : (old new : List RecordView) (added : RecordView) (version : ℕ) → new ≡ old ++ added ∷ []
+    → version ≡ length new → IsPublishedAt true old new added version
+published_at-next old new added version is count =
     let size : length new ≡ suc (length old) = omega (arith, ap length is, length-append old (added ∷ [])) in record {
       grows = (added ∷ [], is);
       later = omega (arith, size, count);
@@ -68,11 +72,11 @@ stands_next old new added version is count =
     }
 
 -- a record that was pushed stands at the next version
-pub stands_pushed : (records new : List (Arc RecordView Global)) (added : Arc RecordView Global) (version : ℕ)
+pub published_at-push : (records new : List (Arc RecordView Global)) (added : Arc RecordView Global) (version : ℕ)
     → new ≡ records ++ added ∷ [] → version ≡ length new
-    → Stands true (views_of records) (views_of new) (arc_value added) version
-stands_pushed records new added version is count =
-    stands_next (views_of records) (views_of new) (arc_value added) version
+    → IsPublishedAt true (views_of records) (views_of new) (arc_value added) version
+published_at-push records new added version is count =
+    published_at-next (views_of records) (views_of new) (arc_value added) version
     (ap views_of is ∙ views-push records added) (count ∙ sym (length-views new))
 
 -- and the views are one more
@@ -80,15 +84,3 @@ pub one_more : (records new : List (Arc RecordView Global)) (added : Arc RecordV
     → new ≡ records ++ added ∷ [] → length (views_of new) ≡ length (views_of records) + 1
 one_more records new added is =
     omega (arith, ap length is, length-append records (added ∷ []), length-views records, length-views new)
-
--- records stay few where there was room
-pub few_more : (records new : List (Arc RecordView Global)) (added : Arc RecordView Global)
-    → new ≡ records ++ added ∷ [] → length records < 256 → length new ≤ 256
-few_more records new added is low = omega (arith, ap length is, length-append records (added ∷ []))
-
--- what holds of each record still does where it holds of the one that was added
-pub all_more : (P : RecordView → Type 0) (records new : List (Arc RecordView Global)) (added : Arc RecordView Global)
-    → new ≡ records ++ added ∷ [] → All P (views_of records) → P (arc_value added) → All P (views_of new)
-all_more P records new added is all one =
-    subst (λ (v : List RecordView). All P v) (sym (ap views_of is ∙ views-push records added))
-    (All-push P (views_of records) (arc_value added) all one)

@@ -1,6 +1,7 @@
 -- What the calls of a shelf do to the list of records that its holder has seen.
 use Rattle.std.specs.Prelude.{◌≡◌, ℕ, ◌+◌, ◌<◌, List, [], ◌∷◌, ◌++◌, Bool, true, length, Some, Result, Ok, Err}
 use Rattle.tree_versions.specs.Records.{RecordView, Grows, record_at}
+use Rattle.tree_versions.specs.declared.shelf.TheConstants.{MOST_RECORDS}
 use Rattle.tree_versions.specs.declared.shelf.PublishFault.{PublishFault}
 use Rattle.tree_versions.specs.declared.shelf.PublishFault.TheVariants.{Full, NoMemory}
 
@@ -11,7 +12,7 @@ pub record Looks (alone : Bool) (old new : List RecordView) : Type 0 where
 
 -- The new record stands at a later place than all that was seen, and the list up to it is seen; on a shelf that
 -- nobody else has it is the next.
-pub record Stands (alone : Bool) (old new : List RecordView) (added : RecordView) (version : ℕ) : Type 0 where
+pub record IsPublishedAt (alone : Bool) (old new : List RecordView) (added : RecordView) (version : ℕ) : Type 0 where
   pub grows : Grows old new
   pub later : length old < version
   pub last : length new ≡ version
@@ -21,10 +22,10 @@ pub record Stands (alone : Bool) (old new : List RecordView) (added : RecordView
 -- As many records are held as can be.
 pub record IsFull (alone : Bool) (old new : List RecordView) : Type 0 where
   pub looks : Looks alone old new
-  pub full : length new ≡ 256
+  pub full : length new ≡ MOST_RECORDS
 
--- What publishing a record did, and to the number of records that were published through the shelf.
+-- What publishing a record did to the list, and to the number of records that were published through the shelf.
 abbrev pub Publishes : Bool → List RecordView → List RecordView → RecordView → ℕ → ℕ → Result ℕ PublishFault → Type 0
-Publishes alone old new added own own2 (Ok version) = Stands alone old new added version × (own2 ≡ own + 1)
-Publishes alone old new added own own2 (Err Full) = IsFull alone old new × (own2 ≡ own)
-Publishes alone old new added own own2 (Err NoMemory) = Looks alone old new × (own2 ≡ own)
+Publishes alone old new added before after (Ok version) = IsPublishedAt alone old new added version × (after ≡ before + 1)
+Publishes alone old new added before after (Err Full) = IsFull alone old new × (after ≡ before)
+Publishes alone old new added before after (Err NoMemory) = Looks alone old new × (after ≡ before)

@@ -9,5 +9,5 @@ mod shelf;
 mod solo;
 
 pub use record::Record;
-pub use shelf::{PublishFault, Shelf};
-pub use solo::{MOST_RECORDS, SoloShelf};
+pub use shelf::{MOST_RECORDS, PublishFault, Shelf};
+pub use solo::SoloShelf;

@@ -2,16 +2,20 @@
 ghost use Rattle.std.specs.Prelude.{◌≡◌, ◌≢◌, ℕ, ◌<◌, ◌≤◌, List, Bool, true, Some, Err, length};
 ghost use Rattle.std.specs.Arc.{arc_value};
 ghost use Rattle.tree_versions.specs.Records.{AreCutTrees, AreFinished, RecordView, record_at as at_version};
+ghost use Rattle.tree_versions.specs.declared.shelf.TheConstants.{MOST_RECORDS};
 ghost use Rattle.tree_versions.specs.Shelves.{Looks, Publishes};
 
 use crate::Record;
 use std::sync::Arc;
 use thiserror::Error;
 
+/// The most records that a shelf holds.
+pub const MOST_RECORDS: u32 = 256;
+
 /// Why a record wasn't published. It is dropped then.
 #[derive(Clone, Copy, PartialEq, Eq, Debug, Error)]
 pub enum PublishFault {
-    /// As many records are held as can be, 256.
+    /// As many records are held as can be, [`MOST_RECORDS`].
     #[error("no room for another record")]
     Full,
     /// Memory was wanted.
@@ -19,14 +23,14 @@ pub enum PublishFault {
     NoMemory,
 }
 
-/// One growing list of at most 256 records, of which its holder has seen a front. Records are counted from
-/// 1, and the number of a record is its version.
+/// One growing list of at most [`MOST_RECORDS`] records, of which its holder has seen a front. Records are
+/// counted from 1, and the number of a record is its version.
 pub trait Shelf {
     /// The records that the holder has seen.
     ghost seen: { Self → List RecordView };
 
     /// How many records were published through this shelf.
-    ghost own: { Self → ℕ };
+    ghost published: { Self → ℕ };
 
     /// Nobody else publishes on the list.
     ghost alone: { Self → Bool };
@@ -34,8 +38,8 @@ pub trait Shelf {
     /// Publishing surely wants no memory.
     ghost sure: { Self → Bool };
 
-    /// At most 256 records are seen.
-    ghost few: { (shelf : Self) → length (seen shelf) ≤ 256 };
+    /// At most [`MOST_RECORDS`] records are seen.
+    ghost few: { (shelf : Self) → length (seen shelf) ≤ MOST_RECORDS };
 
     /// Each record that is seen holds a complete run over its own network.
     ghost runs: { (shelf : Self) → AreFinished (seen shelf) };
@@ -47,7 +51,7 @@ pub trait Shelf {
     fn look(&mut self) -> u32
         ensures seen { Looks (alone self.old) (seen self.old) (seen self.new) }
         ensures count { result ≡ length (seen self.new) }
-        ensures own { own self.new ≡ own self.old }
+        ensures published { published self.new ≡ published self.old }
         ensures alone { alone self.new ≡ alone self.old }
         ensures sure { sure self.new ≡ sure self.old };
 
@@ -60,11 +64,11 @@ pub trait Shelf {
     /// Publishes a record, and tells its version.
     ///
     /// # Errors
-    /// [`PublishFault::Full`] exactly where 256 records are held, and [`PublishFault::NoMemory`] where memory
+    /// [`PublishFault::Full`] exactly where [`MOST_RECORDS`] records are held, and [`PublishFault::NoMemory`] where memory
     /// was wanted. Nothing was published then.
     fn publish(&mut self, new: Arc<Record>) -> Result<u32, PublishFault>
         ensures published { Publishes (alone self.old) (seen self.old) (seen self.new) (arc_value new)
-            (own self.old) (own self.new) result }
+            (published self.old) (published self.new) result }
         ensures memory { sure self.old ≡ true → result ≢ Err PublishFault.NoMemory }
         ensures alone { alone self.new ≡ alone self.old }
         ensures sure { sure self.new ≡ sure self.old };

@@ -1,34 +1,48 @@
 //! A shelf that nobody else has.
-ghost use Rattle.std.specs.Prelude.{◌≡◌, ◌≤◌, [], IfOk, length, vec_capacity};
-ghost use Rattle.tree_versions.specs.Facts.{finished_is_fact, trees_are_fact};
-ghost use Rattle.tree_versions.specs.Records.{AreCutTrees, AreFinished};
-ghost use Rattle.tree_versions.specs.Solo.{views_of};
+ghost use Rattle.std.specs.Prelude.{◌≡◌, [], IfOk};
+ghost use Rattle.tree_versions.specs.Facts.{sound_shelf_is_fact};
+ghost use Rattle.tree_versions.specs.Solo.{IsSoundShelf, views_of};
 
-use crate::{PublishFault, Record, Shelf};
+use crate::{MOST_RECORDS, PublishFault, Record, Shelf};
 use cut_model::NoMemory;
 use std::alloc::Global;
+use std::marker::Model;
 use std::sync::Arc;
 
-/// The most records that a shelf holds.
-pub const MOST_RECORDS: u32 = 256;
-
-/// A shelf of one holder, which has seen all of it. Its memory is taken when it is made.
+/// A shelf of one holder, which has seen all of it. Its memory is taken when it is made. Contracts see a
+/// `SoloView`.
+///
+/// Where `shelf` is new, `shelf.publish(record)` gives `Ok(1)`, and then `shelf.look()` gives 1.
 #[derive(Drop)]
 pub struct SoloShelf {
     records: Vec<Arc<Record>>,
-    ghost few: { length records.items ≤ 256 },
-    ghost runs: { AreFinished (views_of records.items) } by { finished_is_fact (views_of records.items) },
-    ghost trees: { AreCutTrees (views_of records.items) } by { trees_are_fact (views_of records.items) },
-    ghost room: { 256 ≤ vec_capacity records },
+    ghost sound: { IsSoundShelf (views_of records.items) } by { sound_shelf_is_fact (views_of records.items) },
+}
+
+impl Model for SoloShelf {
+    ghost use Rattle.std.specs.Prelude.{◌≤◌, vec_capacity};
+    ghost use Rattle.tree_versions.specs.Solo.{SoloView, views_of};
+    ghost use Rattle.tree_versions.specs.declared.shelf.TheConstants.{MOST_RECORDS};
+
+    ghost Value = { SoloView };
+
+    ghost use Rattle.std.specs.Coded.{codes};
+    ghost use Rattle.tree_versions.specs.Facts.{finished_is_fact};
+
+    ghost coded = { Prim.hlevel (codes, finished_is_fact) };
+
+    ghost view = { λ shelf. record { records = views_of shelf.records.items; sound = shelf.sound } };
+
+    ghost invariant = { λ shelf. MOST_RECORDS ≤ vec_capacity shelf.records };
 }
 
 impl SoloShelf {
-    /// A shelf without records, and with room for 256.
+    /// A shelf without records, and with room for [`MOST_RECORDS`].
     ///
     /// # Errors
     /// [`NoMemory`] where the memory of the room can't be had.
     pub fn make(alloc: Global) -> Result<SoloShelf, NoMemory>
-        ensures { IfOk result (λ shelf. views_of shelf.records.items ≡ []) }
+        ensures { IfOk result (λ shelf. shelf.records ≡ []) }
     {
         Ok(SoloShelf {
             records: Vec::with_capacity(alloc, MOST_RECORDS as usize)?,
@@ -37,7 +51,7 @@ impl SoloShelf {
 
     /// The records, version 1 first.
     pub fn into_records(self) -> Vec<Arc<Record>>
-        ensures { result ≡ self.records }
+        ensures { views_of result.items ≡ self.records }
     {
         let SoloShelf { records } = self;
         records
@@ -46,21 +60,20 @@ impl SoloShelf {
 
 impl Shelf for SoloShelf {
     ghost use Rattle.std.specs.Prelude.{length, true};
-    ghost use Rattle.tree_versions.specs.Solo.{few_views, views_of};
 
-    ghost seen = { λ shelf. views_of shelf.records.items };
+    ghost seen = { λ shelf. shelf.records };
 
-    ghost own = { λ shelf. length (views_of shelf.records.items) };
+    ghost published = { λ shelf. length shelf.records };
 
     ghost alone = { λ _. true };
 
     ghost sure = { λ _. true };
 
-    ghost runs = { λ shelf. shelf.runs };
+    ghost few = { λ shelf. shelf.sound.few };
 
-    ghost trees = { λ shelf. shelf.trees };
+    ghost runs = { λ shelf. shelf.sound.runs };
 
-    ghost few = { λ shelf. few_views shelf.records.items shelf.few };
+    ghost trees = { λ shelf. shelf.sound.trees };
 
     fn look(&mut self) -> u32 {
         self.records.len() as u32

@@ -5,9 +5,9 @@ use Rattle.session.proofs.serve.serve.Given as goal
 
 abbrev pub invariant-lines : goal.invariant-lines
 invariant-lines g l = record {
-  so_far : GoesOn (g.H.Shelf.alone l.fn.shelf) (g.H.Shelf.seen l.fn.shelf) (g.H.Shelf.own l.fn.shelf)
+  so_far : GoesOn (g.H.Shelf.alone l.fn.shelf) (g.H.Shelf.seen l.fn.shelf) (g.H.Shelf.published l.fn.shelf)
       (g.P.Source.left l.fn.peer) (g.P.Sink.written l.fn.peer) l.reader (g.P.Source.left l.peer)
-      (g.P.Source.ended l.peer) (g.P.Sink.written l.peer) (g.H.Shelf.seen l.shelf) (g.H.Shelf.own l.shelf)
+      (g.P.Source.ended l.peer) (g.P.Sink.written l.peer) (g.H.Shelf.seen l.shelf) (g.H.Shelf.published l.shelf)
       l.state.intake;
   budget : l.reader.taken ≤ 2 ^ 30;
   counted : lines_in l.state.intake + length l.reader.bytes ≤ l.reader.taken;

@@ -9,5 +9,5 @@ returns-in-Ok-clause-loads g c = λ text read.
 pub returns-in-Err-clause-loads : goal.returns-in-Err-clause-loads
 returns-in-Err-clause-loads g c = λ text read.
     closed_err _ _ _ _ _ _ c.args.reader.progress c.args.reader.ended text read
-    (g.H.Shelf.few c.refuse_text.new.shelf) c.refuse_text.ensures.looks c.refuse_text.ensures.own c.in-Err.fault
+    (g.H.Shelf.few c.refuse_text.new.shelf) c.refuse_text.ensures.looks c.refuse_text.ensures.published c.in-Err.fault
     c.in-Err.ensures c.refuse_text.ensures.reply c.refuse_text.ensures.lost

@@ -20,4 +20,4 @@ returns-in-Err-NoMemory-clause-loads g c =
     let published = rw c.in-Err-NoMemory.field-0-is at c.in-Err-NoMemory.ensures.published in
     want_loads _ _ _ _ _ _ (g.H.Shelf.few c.refuse_load.new.shelf)
     (Looks-trans _ _ _ _ published.0 (rw c.in-Err-NoMemory.ensures.alone at c.refuse_load.ensures.looks))
-    (c.refuse_load.ensures.own ∙ published.1) (Ok (arc_value c.args.new).sheet) c.refuse_load.ensures.reply
+    (c.refuse_load.ensures.published ∙ published.1) (Ok (arc_value c.args.new).sheet) c.refuse_load.ensures.reply

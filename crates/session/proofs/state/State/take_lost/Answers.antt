@@ -7,7 +7,7 @@ pub returns-then-is_end-clause-taken : goal.returns-then-is_end-clause-taken
 returns-then-is_end-clause-taken g c = λ text.
     ended_taken _ _ _ _ _ text c.args.line.now _ (sym c.is_end.ensures ∙ c.if-is_end.true)
     (want_loads _ _ _ _ _ _ (g.H.Shelf.few c.refuse_load.new.shelf) c.refuse_load.ensures.looks
-    c.refuse_load.ensures.own (verdict_of text true) c.refuse_load.ensures.reply)
+    c.refuse_load.ensures.published (verdict_of text true) c.refuse_load.ensures.reply)
 
 pub returns-else-is_end-clause-taken : goal.returns-else-is_end-clause-taken
 returns-else-is_end-clause-taken g c = λ text.

@@ -7,7 +7,7 @@ use Rattle.session.proofs.state.State.take_request.Goals as goal
 pub returns-in-Ok-Nothing-clause-taken : goal.returns-in-Ok-Nothing-clause-taken
 returns-in-Ok-Nothing-clause-taken g c =
     passed_taken _ _ _ _ _ (g.H.Shelf.few c.look-version.new.self) c.look-version.ensures.seen
-    c.look-version.ensures.own
+    c.look-version.ensures.published
     c.look-version.result _
     c.look-version.ensures.count c.seen_record-seen.ensures _ c.args.line.now c.requires.between
     (rw (c.in-Ok-Nothing.field-0-is, c.sheet_of.ensures) at c.in-Ok-Nothing.ensures.value)
@@ -15,7 +15,7 @@ returns-in-Ok-Nothing-clause-taken g c =
 pub returns-in-Ok-Load-clause-taken : goal.returns-in-Ok-Load-clause-taken
 returns-in-Ok-Load-clause-taken g c =
     load_taken _ _ _ _ _ (g.H.Shelf.few c.look-version.new.self) c.look-version.ensures.seen
-    c.look-version.ensures.own
+    c.look-version.ensures.published
     c.look-version.result _
     c.look-version.ensures.count c.seen_record-seen.ensures _ c.args.line.now c.begin_text.ensures.holds
     (rw (c.in-Ok-Load.field-0-is, c.sheet_of.ensures) at c.in-Ok-Load.ensures.value)
@@ -23,7 +23,7 @@ returns-in-Ok-Load-clause-taken g c =
 pub returns-in-Ok-clause-taken : goal.returns-in-Ok-clause-taken
 returns-in-Ok-clause-taken g c =
     asked_taken _ _ _ _ _ (g.H.Shelf.few c.look-version.new.self) c.look-version.ensures.seen
-    c.look-version.ensures.own
+    c.look-version.ensures.published
     c.look-version.result _
     c.look-version.ensures.count c.seen_record-seen.ensures _ c.args.line.now (Ok c.in-Ok.request)
     c.report.new.self.reply
@@ -33,7 +33,7 @@ returns-in-Ok-clause-taken g c =
 pub returns-in-Ok-Bye-clause-taken : goal.returns-in-Ok-Bye-clause-taken
 returns-in-Ok-Bye-clause-taken g c =
     bye_taken _ _ _ _ _ (g.H.Shelf.few c.look-version.new.self) c.look-version.ensures.seen
-    c.look-version.ensures.own
+    c.look-version.ensures.published
     c.look-version.result _
     c.look-version.ensures.count c.seen_record-seen.ensures c.args.self.now.intake c.args.line.now _
     (rw (c.in-Ok-Bye.field-0-is, c.sheet_of.ensures) at c.in-Ok-Bye.ensures.value) c.bye_reply.ensures
@@ -41,7 +41,7 @@ returns-in-Ok-Bye-clause-taken g c =
 pub returns-in-Err-clause-taken : goal.returns-in-Err-clause-taken
 returns-in-Err-clause-taken g c =
     asked_taken _ _ _ _ _ (g.H.Shelf.few c.look-version.new.self) c.look-version.ensures.seen
-    c.look-version.ensures.own
+    c.look-version.ensures.published
     c.look-version.result _
     c.look-version.ensures.count c.seen_record-seen.ensures _ c.args.line.now (Err c.in-Err.fault)
     c.refuse.new.self.reply
