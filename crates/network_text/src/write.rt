@@ -19,8 +19,7 @@ use wires::{Failed, Sink, put_pieces};
 /// # Errors
 /// [`Failed`] where a put failed. A front of the text was written then.
 pub fn write_sheet<K: Sink>(sheet: &Sheet, sink: &mut K) -> Result<(), Failed>
-    ensures puts { Puts K.written K.write_faults K.beside_sink K.takes sink.old sink.new result
-        (sheet_text sheet.now) }
+    ensures puts { Puts K.Sink sink.old sink.new result (sheet_text sheet.now) }
     ensures same_sheet { verdict_in (sheet_text sheet.now) ≡ Ok sheet.now }
 {
     write_routers(sheet, sink)?;
@@ -30,8 +29,7 @@ pub fn write_sheet<K: Sink>(sheet: &Sheet, sink: &mut K) -> Result<(), Failed>
 
 /// Writes the line of each router.
 fn write_routers<K: Sink>(sheet: &Sheet, sink: &mut K) -> Result<(), Failed>
-    ensures puts { Puts K.written K.write_faults K.beside_sink K.takes sink.old sink.new result
-        (concat (map router_text sheet.now.names)) }
+    ensures puts { Puts K.Sink sink.old sink.new result (concat (map router_text sheet.now.names)) }
     ensures sheet { IsSheet sheet.now.names sheet.now.net }
 {
     for router in 0..sheet.net().routers() {
@@ -42,7 +40,7 @@ fn write_routers<K: Sink>(sheet: &Sheet, sink: &mut K) -> Result<(), Failed>
 
 /// Writes the line of each link.
 fn write_links<K: Sink>(sheet: &Sheet, sink: &mut K) -> Result<(), Failed>
-    ensures puts { Puts K.written K.write_faults K.beside_sink K.takes sink.old sink.new result
+    ensures puts { Puts K.Sink sink.old sink.new result
         (concat (map (link_text sheet.now.names) sheet.now.net.links)) }
 {
     for link in sheet.net().links() {
@@ -55,8 +53,7 @@ fn write_links<K: Sink>(sheet: &Sheet, sink: &mut K) -> Result<(), Failed>
 fn write_link<K: Sink>(sheet: &Sheet, link: Link, sink: &mut K) -> Result<(), Failed>
     requires a { link.a < length sheet.now.names }
     requires b { link.b < length sheet.now.names }
-    ensures puts { Puts K.written K.write_faults K.beside_sink K.takes sink.old sink.new result
-        (link_text sheet.now.names link) }
+    ensures puts { Puts K.Sink sink.old sink.new result (link_text sheet.now.names link) }
 {
     let mut digits = Buffer::new();
     put_pieces(

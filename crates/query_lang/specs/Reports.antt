@@ -1,6 +1,5 @@
 -- Which text is the reply to a request that is answered from a network and its tree.
 use Rattle.std.specs.Prelude.{◌≡◌, ℕ, List, Bool, codes, Result}
-use Rattle.std.specs.declared.option.Option.{Option}
 use Rattle.cut_model.specs.Cuts.{IsLeastCut, set_of}
 use Rattle.cut_model.specs.Terminals.{root_of}
 use Rattle.network_text.specs.Sheets.{SheetView}
@@ -9,8 +8,8 @@ use Rattle.tree_state.specs.Views.{TreeView, up_of, width_of}
 use Rattle.tree_state.specs.Paths.{IsLeastEdge, IsWeakest, IsGlobalCut, side_for}
 use Rattle.tree_state.specs.Shown.{ShowsSet}
 use Rattle.tree_state.specs.Tables.{below}
-use Rattle.wires.specs.Beside.{Beside}
 use Rattle.wires.specs.Puts.{Puts}
+use Rattle.wires.specs.declared.sinks.Sink.{Ghosts}
 use Rattle.query_lang.specs.declared.request.Request.{Request}
 use Rattle.query_lang.specs.declared.request.Request.TheVariants.{Cut, Path, Tree, Run, Net, Weakest}
 use Rattle.query_lang.specs.Replies.{cut_text, net_text}
@@ -53,8 +52,8 @@ IsReport version sheet tree Weakest text = IsWeakestReport version sheet tree te
 IsReport version sheet tree _ text = ⊥
 
 -- A text of the wanted kind was put into a sink: all of it, or at a failure a front of it.
-pub record PutsSome {S E : Type 0} (written : S → Option (List ℕ)) (write_faults : S → ℕ) (beside_sink : S → Beside)
-    (takes : S → ℕ → Bool) (old new : S) (result : Result (Unit {0}) E) (IsWanted : List ℕ → Type 0) : Type 0 where
+pub record PutsSome {S E : Type 0} (g : Ghosts S) (old new : S) (result : Result (Unit {0}) E)
+    (IsWanted : List ℕ → Type 0) : Type 0 where
   pub text : List ℕ
   pub wanted : IsWanted text
-  pub puts : Puts written write_faults beside_sink takes old new result text
+  pub puts : Puts g old new result text

@@ -13,7 +13,7 @@ use wires::{Failed, Sink, put_pieces};
 fn write_name<K: Sink>(sheet: &Sheet, side: &Side, router: u32, sink: &mut K) -> Result<(), Failed>
     requires named { router < length sheet.now.names }
     requires sided { router < length side.now }
-    ensures puts { Puts K.written K.write_faults K.beside_sink K.takes sink.old sink.new result
+    ensures puts { Puts K.Sink sink.old sink.new result
         (name_piece (slice_index_or sheet.now.names router [])
         (slice_index_or side.now router false)) }
 {
@@ -27,8 +27,7 @@ fn write_name<K: Sink>(sheet: &Sheet, side: &Side, router: u32, sink: &mut K) ->
 /// Writes a space and the name of each router of the side, in number order.
 fn write_names<K: Sink>(sheet: &Sheet, side: &Side, sink: &mut K) -> Result<(), Failed>
     requires { length side.now ≡ length sheet.now.names }
-    ensures puts { Puts K.written K.write_faults K.beside_sink K.takes sink.old sink.new result
-        (side_names sheet.now.names side.now) }
+    ensures puts { Puts K.Sink sink.old sink.new result (side_names sheet.now.names side.now) }
 {
     for router in 0..side.size() {
         write_name(sheet, side, router, sink)?;
@@ -38,8 +37,7 @@ fn write_names<K: Sink>(sheet: &Sheet, side: &Side, sink: &mut K) -> Result<(), 
 
 /// Writes the first words of a reply that tells a cut, up to the names.
 fn write_cut_head<K: Sink>(version: u32, word: &str, value: u64, sink: &mut K) -> Result<(), Failed>
-    ensures puts { Puts K.written K.write_faults K.beside_sink K.takes sink.old sink.new result
-        (cut_head version word.now value) }
+    ensures puts { Puts K.Sink sink.old sink.new result (cut_head version word.now value) }
 {
     let mut version_digits = Buffer::new();
     let mut value_digits = Buffer::new();
@@ -69,7 +67,7 @@ pub(crate) fn write_cut<K: Sink>(
     sink: &mut K,
 ) -> Result<(), Failed>
     requires { length side.now ≡ length sheet.now.names }
-    ensures puts { Puts K.written K.write_faults K.beside_sink K.takes sink.old sink.new result
+    ensures puts { Puts K.Sink sink.old sink.new result
         (cut_text version word.now value sheet.now.names side.now) }
 {
     write_cut_head(version, word, value, sink)?;

@@ -15,8 +15,7 @@ use wires::{Failed, Sink, put_pieces};
 /// [`Failed`] where a put failed. A front of the reply was written then.
 #[tactic(auto, unfolding(crate::specs::Replies::loaded_text))]
 pub fn write_loaded<K: Sink>(version: u32, net: &Network, sink: &mut K) -> Result<(), Failed>
-    ensures puts { Puts K.written K.write_faults K.beside_sink K.takes sink.old sink.new result
-        (loaded_text version net.now) }
+    ensures puts { Puts K.Sink sink.old sink.new result (loaded_text version net.now) }
 {
     let mut version_digits = Buffer::new();
     let mut router_digits = Buffer::new();
@@ -41,8 +40,7 @@ pub fn write_loaded<K: Sink>(version: u32, net: &Network, sink: &mut K) -> Resul
 /// [`Failed`] where a put failed. A front of the reply was written then.
 #[tactic(auto, unfolding(crate::specs::Replies::bye_text))]
 pub fn write_bye<K: Sink>(version: u32, sink: &mut K) -> Result<(), Failed>
-    ensures puts { Puts K.written K.write_faults K.beside_sink K.takes sink.old sink.new result
-        (bye_text version) }
+    ensures puts { Puts K.Sink sink.old sink.new result (bye_text version) }
 {
     let mut digits = Buffer::new();
     put_pieces(&[b"@", digits.format(version).as_bytes(), b" BYE\n"], sink)
@@ -60,8 +58,7 @@ pub fn write_refusal<K: Sink>(
     line: Option<u32>,
     sink: &mut K,
 ) -> Result<(), Failed>
-    ensures puts { Puts K.written K.write_faults K.beside_sink K.takes sink.old sink.new result
-        (refused_text version number line) }
+    ensures puts { Puts K.Sink sink.old sink.new result (refused_text version number line) }
 {
     write_refusal_head(version, number, sink)?;
     write_line_number(line, sink)?;
@@ -70,8 +67,7 @@ pub fn write_refusal<K: Sink>(
 
 /// Writes the first words of a refusal, up to the number of its reason.
 fn write_refusal_head<K: Sink>(version: u32, number: u32, sink: &mut K) -> Result<(), Failed>
-    ensures puts { Puts K.written K.write_faults K.beside_sink K.takes sink.old sink.new result
-        (refusal_head version number) }
+    ensures puts { Puts K.Sink sink.old sink.new result (refusal_head version number) }
 {
     let mut version_digits = Buffer::new();
     let mut number_digits = Buffer::new();
@@ -88,8 +84,7 @@ fn write_refusal_head<K: Sink>(version: u32, number: u32, sink: &mut K) -> Resul
 
 /// Writes which line a refusal tells of, where it tells of one.
 fn write_line_number<K: Sink>(line: Option<u32>, sink: &mut K) -> Result<(), Failed>
-    ensures puts { Puts K.written K.write_faults K.beside_sink K.takes sink.old sink.new result
-        (line_piece line) }
+    ensures puts { Puts K.Sink sink.old sink.new result (line_piece line) }
 {
     let Some(line) = line else {
         return Ok(());
@@ -104,8 +99,7 @@ fn write_line_number<K: Sink>(line: Option<u32>, sink: &mut K) -> Result<(), Fai
 /// # Errors
 /// [`Failed`] where a put failed. A front of the line was written then.
 pub fn write_head<K: Sink>(version: u32, word: &str, lines: u64, sink: &mut K) -> Result<(), Failed>
-    ensures puts { Puts K.written K.write_faults K.beside_sink K.takes sink.old sink.new result
-        (head_text version word.now lines) }
+    ensures puts { Puts K.Sink sink.old sink.new result (head_text version word.now lines) }
 {
     let mut version_digits = Buffer::new();
     let mut line_digits = Buffer::new();

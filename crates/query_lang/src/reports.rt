@@ -28,8 +28,7 @@ fn line_count(sheet: &Sheet) -> u64
 /// lines.
 #[tactic(auto, unfolding(crate::specs::Replies::net_text))]
 fn write_net<K: Sink>(version: u32, sheet: &Sheet, sink: &mut K) -> Result<(), Failed>
-    ensures puts { Puts K.written K.write_faults K.beside_sink K.takes sink.old sink.new result
-        (net_text version sheet.now) }
+    ensures puts { Puts K.Sink sink.old sink.new result (net_text version sheet.now) }
 {
     write_head(version, "NET", line_count(sheet), sink)?;
     write_sheet(sheet, sink)
@@ -49,7 +48,7 @@ fn write_least_cut<K: Sink>(
     requires ends { AreEnds sheet.now a b }
     requires same { finished.now.tree.net ≡ sheet.now.net }
     requires ladder { IsLadderOf finished.now.tree ladder.now }
-    ensures puts { PutsSome K.written K.write_faults K.beside_sink K.takes sink.old sink.new result
+    ensures puts { PutsSome K.Sink sink.old sink.new result
         (IsCutReport version sheet.now finished.now.tree a b) }
 {
     prove!(a.max(b) < sheet.net().routers());
@@ -70,7 +69,7 @@ fn write_ordered_path<K: Sink>(
 ) -> Result<(), Failed>
     requires ends { AreEnds sheet.now a b }
     requires same { finished.now.tree.net ≡ sheet.now.net }
-    ensures puts { PutsSome K.written K.write_faults K.beside_sink K.takes sink.old sink.new result
+    ensures puts { PutsSome K.Sink sink.old sink.new result
         (IsPathReport version sheet.now finished.now.tree a b) }
 {
     path(finished, a, b, room);
@@ -87,7 +86,7 @@ fn write_weakest<K: Sink>(
 ) -> Result<(), Failed>
     requires some { 2 ≤ terminal_count sheet.now.net }
     requires same { finished.now.tree.net ≡ sheet.now.net }
-    ensures puts { PutsSome K.written K.write_faults K.beside_sink K.takes sink.old sink.new result
+    ensures puts { PutsSome K.Sink sink.old sink.new result
         (IsWeakestReport version sheet.now finished.now.tree) }
 {
     prove!(sheet.net().routers() <= 1024);
@@ -117,7 +116,7 @@ pub fn write_reply<K: Sink>(
     requires of { IsOf (Some sheet.now) request.now }
     requires same { finished.now.tree.net ≡ sheet.now.net }
     requires ladder { IsLadderOf finished.now.tree ladder.now }
-    ensures puts { PutsSome K.written K.write_faults K.beside_sink K.takes sink.old sink.new result
+    ensures puts { PutsSome K.Sink sink.old sink.new result
         (IsReport version sheet.now finished.now.tree request.now) }
 {
     match *request {

@@ -22,8 +22,7 @@ fn write_edge<K: Sink>(
 ) -> Result<(), Failed>
     requires child { child < length sheet.now.names }
     requires above { above < length sheet.now.names }
-    ensures puts { Puts K.written K.write_faults K.beside_sink K.takes sink.old sink.new result
-        (edge_line sheet.now.names child above number) }
+    ensures puts { Puts K.Sink sink.old sink.new result (edge_line sheet.now.names child above number) }
 {
     let mut digits = Buffer::new();
     put_pieces(
@@ -48,8 +47,7 @@ fn write_child_line<K: Sink>(
 ) -> Result<(), Failed>
     requires same { finished.now.tree.net ≡ sheet.now.net }
     requires within { child < sheet.now.net.routers }
-    ensures puts { Puts K.written K.write_faults K.beside_sink K.takes sink.old sink.new result
-        (child_line sheet.now.names finished.now.tree child) }
+    ensures puts { Puts K.Sink sink.old sink.new result (child_line sheet.now.names finished.now.tree child) }
 {
     prove!(child < sheet.net().routers());
     let above = finished.up(child);
@@ -65,7 +63,7 @@ fn write_child<K: Sink>(
 ) -> Result<(), Failed>
     requires same { finished.now.tree.net ≡ sheet.now.net }
     requires within { router < sheet.now.net.routers }
-    ensures puts { Puts K.written K.write_faults K.beside_sink K.takes sink.old sink.new result
+    ensures puts { Puts K.Sink sink.old sink.new result
         (child_piece sheet.now.names finished.now.tree router) }
 {
     let net = sheet.net();
@@ -79,7 +77,7 @@ fn write_child<K: Sink>(
 /// Writes the lines of all edges, in the order of their lower ends.
 fn write_children<K: Sink>(sheet: &Sheet, finished: &Finished, sink: &mut K) -> Result<(), Failed>
     requires { finished.now.tree.net ≡ sheet.now.net }
-    ensures puts { Puts K.written K.write_faults K.beside_sink K.takes sink.old sink.new result
+    ensures puts { Puts K.Sink sink.old sink.new result
         (concat (map (child_line sheet.now.names finished.now.tree) (children_of finished.now.tree.net))) }
 {
     for router in 0..sheet.net().routers() {
@@ -105,8 +103,7 @@ pub(crate) fn write_tree<K: Sink>(
     sink: &mut K,
 ) -> Result<(), Failed>
     requires { finished.now.tree.net ≡ sheet.now.net }
-    ensures puts { Puts K.written K.write_faults K.beside_sink K.takes sink.old sink.new result
-        (tree_text version sheet.now finished.now.tree) }
+    ensures puts { Puts K.Sink sink.old sink.new result (tree_text version sheet.now finished.now.tree) }
 {
     write_head(version, "TREE", edge_count(finished), sink)?;
     write_children(sheet, finished, sink)
@@ -127,7 +124,7 @@ fn named_entry<'a>(sheet: &Sheet, finished: &'a Finished, place: u32) -> &'a Ent
 /// Writes the lines of all commits, the oldest first.
 fn write_commits<K: Sink>(sheet: &Sheet, finished: &Finished, sink: &mut K) -> Result<(), Failed>
     requires { finished.now.tree.net ≡ sheet.now.net }
-    ensures puts { Puts K.written K.write_faults K.beside_sink K.takes sink.old sink.new result
+    ensures puts { Puts K.Sink sink.old sink.new result
         (concat (map (commit_line sheet.now.names) finished.now.tree.history)) }
 {
     for place in 0..finished.commits() {
@@ -146,8 +143,7 @@ pub(crate) fn write_run<K: Sink>(
     sink: &mut K,
 ) -> Result<(), Failed>
     requires { finished.now.tree.net ≡ sheet.now.net }
-    ensures puts { Puts K.written K.write_faults K.beside_sink K.takes sink.old sink.new result
-        (run_text version sheet.now finished.now.tree) }
+    ensures puts { Puts K.Sink sink.old sink.new result (run_text version sheet.now finished.now.tree) }
 {
     write_head(version, "RUN", edge_count(finished), sink)?;
     write_commits(sheet, finished, sink)
@@ -162,7 +158,7 @@ fn write_edges<K: Sink>(
 ) -> Result<(), Failed>
     requires same { finished.now.tree.net ≡ sheet.now.net }
     requires within { All (λ child. child < sheet.now.net.routers) children.now }
-    ensures puts { Puts K.written K.write_faults K.beside_sink K.takes sink.old sink.new result
+    ensures puts { Puts K.Sink sink.old sink.new result
         (concat (map (child_line sheet.now.names finished.now.tree) children.now)) }
 {
     for child in children {
@@ -182,7 +178,7 @@ pub(crate) fn write_path<K: Sink>(
 ) -> Result<(), Failed>
     requires same { finished.now.tree.net ≡ sheet.now.net }
     requires within { All (λ child. child < sheet.now.net.routers) children.now }
-    ensures puts { Puts K.written K.write_faults K.beside_sink K.takes sink.old sink.new result
+    ensures puts { Puts K.Sink sink.old sink.new result
         (path_text version sheet.now finished.now.tree children.now) }
 {
     write_head(version, "PATH", children.len() as u64, sink)?;

@@ -1,5 +1,5 @@
 -- Texts that are put one after another.
-use Rattle.std.proofs.Common.{◌≡◌, ℕ, ◌+◌, ◌≤◌, List, [], ◌++◌, length, take, Bool, None, Some, Ok, Err}
+use Rattle.std.proofs.Common.{◌≡◌, ℕ, ◌+◌, ◌≤◌, List, [], ◌++◌, length, take, None, Some, Ok, Err}
 use Rattle.std.proofs.Common.{Result, IsTrue, refl, sym, ap, ◌∙◌, arith, append_assoc, subst, length-append}
 use Rattle.std.proofs.Common.{zero-add}
 use Rattle.std.proofs.lemmas.List.{take-append-le, append-nil}
@@ -7,10 +7,10 @@ use Rattle.std.proofs.Math.Seq.{take-append-add}
 use Rattle.std.specs.declared.option.Option.{Option}
 use Rattle.std.specs.Io.KnownBytes.{Appends}
 use Rattle.std.specs.Result.{IsErr}
-use Rattle.wires.specs.Beside.{Beside}
 use Rattle.wires.specs.Bytes.{PutAppends}
 use Rattle.wires.specs.Causes.{HasCause}
 use Rattle.wires.specs.Puts.{Puts}
+use Rattle.wires.specs.declared.sinks.Sink.{Ghosts}
 
 -- known bytes that stay grow by nothing
 pub Appends-none : (a : Option (List ℕ)) → Appends a a []
@@ -52,54 +52,41 @@ length_on : (x y : List ℕ) (n : ℕ) → length (x ++ y) + n ≡ length x + (l
 length_on x y n = omega (arith, length-append x y)
 
 -- no text at all is put by doing nothing
-pub puts_none : {S E : Type 0} (written : S → Option (List ℕ)) (write_faults : S → ℕ) (beside_sink : S → Beside)
-    (takes : S → ℕ → Bool) (sink : S) → Puts {E = E} written write_faults beside_sink takes sink sink (Ok tt) []
-puts_none written write_faults beside_sink takes sink = record {
-  bytes = Appends-none (written sink);
+pub puts_none : {S E : Type 0} (g : Ghosts S) (sink : S) → Puts {E = E} g sink sink (Ok tt) []
+puts_none g sink = record {
+  bytes = Appends-none (g.written sink);
   cause = record { later = omega arith; still = refl; failed = tt };
   beside = refl;
   sure = λ n h. refl;
-  room = λ n h. subst (λ k. IsTrue (takes sink k)) (zero-add n) h;
+  room = λ n h. subst (λ k. IsTrue (g.takes sink k)) (zero-add n) h;
 }
 
 -- a text may be written in another way
-pub puts_same : {S E : Type 0} {written : S → Option (List ℕ)} {write_faults : S → ℕ} {beside_sink : S → Beside}
-    {takes : S → ℕ → Bool} {old new : S} {result : Result (Unit {0}) E} {x y : List ℕ} → x ≡ y
-    → Puts written write_faults beside_sink takes old new result x
-    → Puts written write_faults beside_sink takes old new result y
-puts_same
-    {written = written} {write_faults = faults} {beside_sink = beside} {takes = takes} {old = old} {new = new}
-    {result = result} is p =
-    subst (λ text. Puts written faults beside takes old new result text) is p
+pub puts_same : {S E : Type 0} {g : Ghosts S} {old new : S} {result : Result (Unit {0}) E} {x y : List ℕ} → x ≡ y
+    → Puts g old new result x → Puts g old new result y
+puts_same {g = g} {old = old} {new = new} {result = result} is p = subst (λ text. Puts g old new result text) is p
 
 -- a whole text was put, and then another, whose answer stands
-pub puts_then : {S D E : Type 0} {written : S → Option (List ℕ)} {write_faults : S → ℕ} {beside_sink : S → Beside}
-    {takes : S → ℕ → Bool} {old mid new : S} {u : Unit {0}} {result : Result (Unit {0}) E} (x y : List ℕ)
-    → Puts {E = D} written write_faults beside_sink takes old mid (Ok u) x
-    → Puts written write_faults beside_sink takes mid new result y
-    → Puts written write_faults beside_sink takes old new result (x ++ y)
-puts_then
-    {written = written} {write_faults = faults} {takes = takes} {old = old} {mid = mid} {new = new} {u = u}
-    {result = result} x y p q =
-    let longer : (n : ℕ) → IsTrue (takes old (length (x ++ y) + n)) → IsTrue (takes mid (length y + n)) =
-    λ n h. p.room (length y + n) (subst (λ k. IsTrue (takes old k)) (length_on x y n) h) in record {
-      bytes = PutAppends-append (written old) (written mid) (written new) result x y p.bytes q.bytes;
-      cause = HasCause-then (faults old) (faults mid) (faults new) u result p.cause q.cause;
+pub puts_then : {S D E : Type 0} {g : Ghosts S} {old mid new : S} {u : Unit {0}} {result : Result (Unit {0}) E}
+    (x y : List ℕ) → Puts {E = D} g old mid (Ok u) x → Puts g mid new result y → Puts g old new result (x ++ y)
+puts_then {g = g} {old = old} {mid = mid} {new = new} {u = u} {result = result} x y p q =
+    let longer : (n : ℕ) → IsTrue (g.takes old (length (x ++ y) + n)) → IsTrue (g.takes mid (length y + n)) =
+    λ n h. p.room (length y + n) (subst (λ k. IsTrue (g.takes old k)) (length_on x y n) h) in record {
+      bytes = PutAppends-append (g.written old) (g.written mid) (g.written new) result x y p.bytes q.bytes;
+      cause = HasCause-then (g.write_faults old) (g.write_faults mid) (g.write_faults new) u result p.cause q.cause;
       beside = q.beside ∙ p.beside;
       sure = λ n h. q.sure n (longer n h);
       room = λ n h. q.room n (longer n h);
     }
 
 -- a text failed, and what should have followed it isn't put
-pub puts_failed : {S D E : Type 0} {written : S → Option (List ℕ)} {write_faults : S → ℕ} {beside_sink : S → Beside}
-    {takes : S → ℕ → Bool} {old new : S} {d : D} (x y : List ℕ) (result : Result (Unit {0}) E) → IsErr result
-    → Puts {E = D} written write_faults beside_sink takes old new (Err d) x
-    → Puts written write_faults beside_sink takes old new result (x ++ y)
+pub puts_failed : {S D E : Type 0} {g : Ghosts S} {old new : S} {d : D} (x y : List ℕ) (result : Result (Unit {0}) E)
+    → IsErr result → Puts {E = D} g old new (Err d) x → Puts g old new result (x ++ y)
 puts_failed x y (Ok u) is p = absurd (cc)
-puts_failed {takes = takes} {old = old} x y (Err e) is p =
-    let never : (n : ℕ) → IsTrue (takes old (length (x ++ y) + n)) → ⊥ =
+puts_failed {g = g} {old = old} x y (Err e) is p =
+    let never : (n : ℕ) → IsTrue (g.takes old (length (x ++ y) + n)) → ⊥ =
     λ n h.
-    let ok = p.sure (length y + n) (subst (λ k. IsTrue (takes old k)) (length_on x y n) h) in absurd (cc) in record {
+    let ok = p.sure (length y + n) (subst (λ k. IsTrue (g.takes old k)) (length_on x y n) h) in absurd (cc) in record {
       bytes = PutAppends-front _ _ e x y p.bytes;
       cause = record { later = p.cause.later; still = tt; failed = p.cause.failed };
       beside = p.beside;

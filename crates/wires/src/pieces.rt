@@ -10,8 +10,7 @@ use crate::{Failed, Sink};
 /// # Errors
 /// [`Failed`] where a put failed. The pieces before that one were written, and a front of it.
 pub fn put_pieces<K: Sink>(pieces: &[&[u8]], sink: &mut K) -> Result<(), Failed>
-    ensures puts { Puts K.written K.write_faults K.beside_sink K.takes sink.old sink.new result
-        (concat (map (λ p. p.now) pieces.now)) }
+    ensures puts { Puts K.Sink sink.old sink.new result (concat (map (λ p. p.now) pieces.now)) }
 {
     for piece in pieces {
         sink.put(piece)?;

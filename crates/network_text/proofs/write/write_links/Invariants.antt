@@ -8,6 +8,5 @@ use Rattle.network_text.proofs.write.write_links.Given as goal
 -- The lines of the links so far are put.
 abbrev pub invariant-loop-link : goal.invariant-loop-link
 invariant-loop-link g l =
-    let sink = g.K.Sink in
     let put = concat (map (link_text l.sheet.names) (take l.link-index l.sheet.net.links)) in
-    Puts {E = Failed} sink.written sink.write_faults sink.beside_sink sink.takes l.fn.sink l.sink (Ok tt) put
+    Puts {E = Failed} g.K.Sink l.fn.sink l.sink (Ok tt) put

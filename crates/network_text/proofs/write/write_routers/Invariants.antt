@@ -8,6 +8,5 @@ use Rattle.network_text.proofs.write.write_routers.Given as goal
 -- The lines of the routers so far are put.
 abbrev pub invariant-loop-router : goal.invariant-loop-router
 invariant-loop-router g l =
-    let sink = g.K.Sink in
     let put = concat (map router_text (take l.router l.sheet.names)) in
-    Puts {E = Failed} sink.written sink.write_faults sink.beside_sink sink.takes l.fn.sink l.sink (Ok tt) put
+    Puts {E = Failed} g.K.Sink l.fn.sink l.sink (Ok tt) put

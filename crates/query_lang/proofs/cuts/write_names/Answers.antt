@@ -17,7 +17,7 @@ loop-router-preserved g c = λ new result rest.
 pub returns : goal.returns
 returns g c =
     let none = side_names-drop_all c.args.sheet.now.names c.args.side.now c.loop-router.router (omega arith) in
-    record { puts = c.loop-router.invariant c.loop-router.sink (Ok tt) (rw none (puts_none _ _ _ _ _)) }
+    record { puts = c.loop-router.invariant c.loop-router.sink (Ok tt) (rw none (puts_none _ _)) }
 
 pub returns-in_err-write_name : goal.returns-in_err-write_name
 returns-in_err-write_name g c =

@@ -8,6 +8,5 @@ use Rattle.query_lang.proofs.trees.write_commits.Given as goal
 -- The lines of the commits so far are put.
 abbrev pub invariant-loop-place : goal.invariant-loop-place
 invariant-loop-place g l =
-    let sink = g.K.Sink in
     let put = concat (map (commit_line l.sheet.names) (take l.place l.finished.tree.history)) in
-    Puts {E = Failed} sink.written sink.write_faults sink.beside_sink sink.takes l.fn.sink l.sink (Ok tt) put
+    Puts {E = Failed} g.K.Sink l.fn.sink l.sink (Ok tt) put

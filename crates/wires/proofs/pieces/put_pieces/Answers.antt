@@ -16,14 +16,14 @@ no_piece : Bor (List ℕ)
 no_piece = record { ref_ptr = (0, 0); now = [] }
 
 pub loop-piece-init : goal.loop-piece-init
-loop-piece-init g c = puts_none _ _ _ _ _
+loop-piece-init g c = puts_none _ _
 
 pub loop-piece-preserved : goal.loop-piece-preserved
 unfolding text no_piece
 loop-piece-preserved g c =
     let k = g.K.Sink in
     let Put : g.row.K.Denot → List ℕ → Type 0 =
-    λ old whole. Puts {E = Failed} k.written k.write_faults k.beside_sink k.takes old c.put.new.self (Ok tt) whole in
+    λ old whole. Puts {E = Failed} k old c.put.new.self (Ok tt) whole in
     let pieces = c.args.pieces.now in
     let i = c.loop-piece.piece-index in
     let put = c.in_ok-put.ensures in
@@ -43,7 +43,7 @@ unfolding text no_piece
 returns-in_err-put g c =
     let k = g.K.Sink in
     let Put : g.row.K.Denot → Result (Unit {0}) Failed → List ℕ → Type 0 =
-    λ old result whole. Puts k.written k.write_faults k.beside_sink k.takes old c.put.new.self result whole in
+    λ old result whole. Puts k old c.put.new.self result whole in
     let pieces = c.args.pieces.now in
     let i = c.loop-piece.piece-index in
     let piece = text (get_or pieces i no_piece) in

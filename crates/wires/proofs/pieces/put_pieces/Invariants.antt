@@ -6,6 +6,5 @@ use Rattle.wires.proofs.pieces.put_pieces.Given as goal
 
 abbrev pub invariant-loop-piece : goal.invariant-loop-piece
 invariant-loop-piece g l =
-    let sink = g.K.Sink in
     let put = concat (map (λ p. p.now) (take l.piece-index l.pieces)) in
-    Puts {E = Failed} sink.written sink.write_faults sink.beside_sink sink.takes l.fn.sink l.sink (Ok tt) put
+    Puts {E = Failed} g.K.Sink l.fn.sink l.sink (Ok tt) put
