@@ -28,6 +28,8 @@ use Rattle.query_lang.specs.Trees.{tree_text}
 use Rattle.query_lang.specs.declared.request.Request.{Request}
 use Rattle.query_lang.specs.declared.request.Request.TheVariants.{Cut, Path, Tree, Run, Weakest}
 use Rattle.query_lang.specs.declared.request.Request.TheVariants as asks
+use Rattle.cut_model.specs.declared.network.TheConstants.{MOST_ROUTERS}
+use Rattle.query_lang.specs.declared.buffer.TheConstants.{MOST_REPLY_BYTES}
 use Rattle.tree_state.specs.Views.{TreeView, up_of, width_of}
 
 -- Digits put before others are at most as many as are asked for.
@@ -47,7 +49,7 @@ unfolding digits
 digits_64 n = length-digits_onto 64 10 false n []
 
 -- The reply to the end of a session fits.
-pub length-bye_text : (version : ℕ) → length (bye_text version) ≤ 740000
+pub length-bye_text : (version : ℕ) → length (bye_text version) ≤ MOST_REPLY_BYTES
 unfolding bye_text
 length-bye_text version = simp length-append (omega (arith, digits_64 version))
 
@@ -57,14 +59,14 @@ length-line_piece None = omega arith
 length-line_piece (Some line) = simp length-append (omega (arith, digits_64 line))
 
 -- A refusal fits.
-pub length-refused_text : (version number : ℕ) (line : Option ℕ) → length (refused_text version number line) ≤ 740000
+pub length-refused_text : (version number : ℕ) (line : Option ℕ) → length (refused_text version number line) ≤ MOST_REPLY_BYTES
 unfolding refused_text
 length-refused_text version number line =
     let piece = length-line_piece line in
     simp length-append (omega (arith, digits_64 version, digits_64 number))
 
 -- The reply to an accepted network fits.
-pub length-loaded_text : (version : ℕ) (net : Net) → length (loaded_text version net) ≤ 740000
+pub length-loaded_text : (version : ℕ) (net : Net) → length (loaded_text version net) ≤ MOST_REPLY_BYTES
 unfolding loaded_text
 length-loaded_text version net =
     simp length-append (omega (arith, digits_64 version, digits_64 net.routers, digits_64 (length net.links)))
@@ -97,12 +99,12 @@ length-side_names (name ∷ names) (inside ∷ side) named =
 
 -- A cut fits: 33 bytes for each of 1,024 names, and some more.
 pub length-cut_text : (version value : ℕ) (word : List ℕ) (names : List (List ℕ)) (net : Net) (side : List Bool)
-    → length word ≤ 8 → IsSheet names net → length (cut_text version word value names side) ≤ 740000
+    → length word ≤ 8 → IsSheet names net → length (cut_text version word value names side) ≤ MOST_REPLY_BYTES
 unfolding cut_text
 length-cut_text version value word names net side short sheet =
     let head = length-cut_head version value word short in
     let tail = length-side_names names side sheet.named in
-    let routers : net.routers ≤ 1024 = sheet.limits.few_routers in
+    let routers : net.routers ≤ MOST_ROUTERS = sheet.limits.few_routers in
     let all = side_names names side ++ codes "\n" in
     let length_all = length-append (side_names names side) (codes "\n") in
     omega (arith, head, tail, routers, sheet.numbered, length-append (cut_head version word value) all, length_all)
@@ -146,7 +148,7 @@ length-sheet_text sheet is =
     let links = sheet.net.links in
     let router_lines = concat (map router_text names) in
     let link_lines = concat (map (link_text names) links) in
-    let few : sheet.net.routers ≤ 1024 = is.limits.few_routers in
+    let few : sheet.net.routers ≤ MOST_ROUTERS = is.limits.few_routers in
     let first = length-texts router_text 40 names
     (λ k d within. length-router_text (slice_index_or names k d) (is.named k d within)) in
     let second = length-texts (link_text names) 85 links
@@ -165,7 +167,7 @@ length-sheet_text sheet is =
 
 -- The network fits: its lines, and the first line.
 pub length-net_text : (version : ℕ) (sheet : SheetView) → IsSheet sheet.names sheet.net
-    → length (net_text version sheet) ≤ 740000
+    → length (net_text version sheet) ≤ MOST_REPLY_BYTES
 unfolding net_text
 length-net_text version sheet is =
     let tail = length-sheet_text sheet is in
@@ -198,10 +200,10 @@ length-children_of net =
 
 -- The tree fits: a line of 131 bytes for each of 1,024 routers, and the first line.
 pub length-tree_text : (version : ℕ) (sheet : SheetView) (tree : TreeView) → IsSheet sheet.names sheet.net
-    → tree.net ≡ sheet.net → length (tree_text version sheet tree) ≤ 740000
+    → tree.net ≡ sheet.net → length (tree_text version sheet tree) ≤ MOST_REPLY_BYTES
 unfolding tree_text
 length-tree_text version sheet tree is same =
-    let few : sheet.net.routers ≤ 1024 = is.limits.few_routers in
+    let few : sheet.net.routers ≤ MOST_ROUTERS = is.limits.few_routers in
     let children = children_of tree.net in
     let routers : tree.net.routers ≡ sheet.net.routers = ap (λ (net : Net). net.routers) same in
     let lines = length-texts (child_line sheet.names tree) 131 children
@@ -214,7 +216,7 @@ length-tree_text version sheet tree is same =
 
 -- The run fits: as many lines as the tree has.
 pub length-run_text : (version : ℕ) (sheet : SheetView) (tree : TreeView) → IsSheet sheet.names sheet.net
-    → length tree.history ≤ 1024 → length (run_text version sheet tree) ≤ 740000
+    → length tree.history ≤ MOST_ROUTERS → length (run_text version sheet tree) ≤ MOST_REPLY_BYTES
 unfolding run_text
 length-run_text version sheet tree is few =
     let history = tree.history in
@@ -228,10 +230,10 @@ length-run_text version sheet tree is few =
 -- A path fits: a line of 131 bytes for each of at most 2,050 edges, and the first line.
 pub length-path_text : (version a b : ℕ) (sheet : SheetView) (tree : TreeView) (children : List ℕ)
     → IsSheet sheet.names sheet.net → tree.net ≡ sheet.net → IsOrderedPath tree.net (up_of tree) a b children
-    → length (path_text version sheet tree children) ≤ 740000
+    → length (path_text version sheet tree children) ≤ MOST_REPLY_BYTES
 unfolding path_text
 length-path_text version a b sheet tree children is same path =
-    let few : sheet.net.routers ≤ 1024 = is.limits.few_routers in
+    let few : sheet.net.routers ≤ MOST_ROUTERS = is.limits.few_routers in
     let routers : tree.net.routers ≡ sheet.net.routers = ap (λ (net : Net). net.routers) same in
     let lines = length-texts (child_line sheet.names tree) 131 children
     (λ k d within. length-edge_line sheet.names (slice_index_or children k d) _ _ is.named) in
@@ -242,8 +244,8 @@ length-path_text version a b sheet tree children is same path =
 
 -- Each report fits.
 pub length-report : (version : ℕ) (sheet : SheetView) (tree : TreeView) (request : Request) (text : List ℕ)
-    → IsSheet sheet.names sheet.net → tree.net ≡ sheet.net → length tree.history ≤ 1024
-    → IsReport version sheet tree request text → length text ≤ 740000
+    → IsSheet sheet.names sheet.net → tree.net ≡ sheet.net → length tree.history ≤ MOST_ROUTERS
+    → IsReport version sheet tree request text → length text ≤ MOST_REPLY_BYTES
 length-report version sheet tree (Cut a b) text is same few report =
     rw report.text_is (length-cut_text version (width_of tree report.child) (codes "CUT") sheet.names sheet.net
     report.side (omega arith) is)

@@ -5,7 +5,6 @@ pub mod Examples
 pub mod Fits
 pub mod Lengths
 pub mod NameTexts
-pub mod OnePath
 pub mod OneReport
 pub mod PathLengths
 pub mod RequestKinds

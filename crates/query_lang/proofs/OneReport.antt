@@ -1,5 +1,5 @@
 -- A request has one report.
-use Rattle.std.proofs.Common.{◌≡◌, ℕ, ◌<◌, List, Bool, false, ap, arith, refl, sym, ◌∙◌}
+use Rattle.std.proofs.Common.{◌≡◌, ℕ, List, Bool, false, ap, arith, refl, sym, ◌∙◌}
 use Rattle.std.proofs.lemmas.List.{ext_get_or}
 use Rattle.cut_model.specs.Net.{Net}
 use Rattle.cut_model.specs.Cuts.{RouterSet}
@@ -13,7 +13,7 @@ use Rattle.query_lang.specs.Reports.{IsCutReport, IsPathReport, IsReport, IsWeak
 use Rattle.query_lang.specs.Trees.{path_text}
 use Rattle.query_lang.specs.declared.request.Request.{Request}
 use Rattle.query_lang.specs.declared.request.Request.TheVariants.{Cut, Path, Tree, Run, Net as NetAsked, Weakest}
-use Rattle.query_lang.proofs.OnePath.{path_once}
+use Rattle.path_minimum.proofs.OnePath.{path-only}
 
 -- Two terminals have one least edge.
 least_edge_once : (net : Net) (up width : Table) (a b c e : ℕ) → IsLeastEdge net up width a b c
@@ -52,7 +52,7 @@ path_report_once : (version : ℕ) (sheet : SheetView) (tree : TreeView) (a b : 
     → IsPathReport version sheet tree a b text → IsPathReport version sheet tree a b other → text ≡ other
 path_report_once version sheet tree a b text other p q =
     p.text_is
-    ∙ ap (path_text version sheet tree) (path_once tree.net (up_of tree) a b p.children q.children p.path q.path)
+    ∙ ap (path_text version sheet tree) (path-only tree.net (up_of tree) a b p.children q.children p.path q.path)
     ∙ sym q.text_is
 
 -- and one that to WEAKEST.

@@ -1,13 +1,15 @@
 -- What a request line asks for, by what it is among the items of a session.
 use Rattle.std.proofs.Common.{◌≡◌, ◌↔◌, ℕ, List, [], ◌∷◌, Bool, true, false, None, Some, Result, Ok, Err, refl, ap}
-use Rattle.std.proofs.Common.{◌∙◌, subst, codes, if◌then◌else◌, ◌==◌, ◌&&◌, nat_lt, not}
+use Rattle.std.proofs.Common.{IsTrue, ◌∙◌, subst, codes, if◌then◌else◌, ◌==◌, ◌&&◌, nat_lt, not}
 use Rattle.std.proofs.lemmas.Bool.{false≢true, true≢false}
 use Rattle.std.proofs.lemmas.Slice.Eq.{bytes_eq-Decides}
 use Rattle.std.specs.Str.{bytes_eq}
 use Rattle.std.specs.declared.option.Option.{Option}
 use Rattle.cut_model.specs.Terminals.{terminal_count}
 use Rattle.network_text.specs.Sheets.{SheetView}
-use Rattle.query_lang.specs.Requests.{about, ends_of, of_network, request_of, weakest_of, words_ask}
+use Rattle.tree_state.specs.Views.{TreeView}
+use Rattle.query_lang.specs.Reports.{IsReport}
+use Rattle.query_lang.specs.Requests.{about, alone, ends_of, needs_record, request_of, weakest_of, words_ask}
 use Rattle.query_lang.specs.declared.request.Request.{Request}
 use Rattle.query_lang.specs.declared.request.Request.TheVariants.{Nothing, Load, Cut, Path, Tree, Run, Net}
 use Rattle.query_lang.specs.declared.request.Request.TheVariants.{Weakest, Bye}
@@ -25,19 +27,25 @@ IsKind (Ok Load) passed load bye = (passed ≡ false) × (load ≡ true)
 IsKind (Ok Bye) passed load bye = (passed ≡ false) × (load ≡ false) × (bye ≡ true)
 IsKind answer passed load bye = (passed ≡ false) × (load ≡ false) × (bye ≡ false)
 
--- A request that is answered from a record, or a fault.
+-- A request that needs a record, or a fault.
 abbrev pub IsOther : Result Request RequestFault → Type 0
-IsOther (Ok Nothing) = ⊥
-IsOther (Ok Load) = ⊥
-IsOther (Ok Bye) = ⊥
-IsOther answer = Unit {0}
+IsOther (Ok request) = IsTrue (needs_record request)
+IsOther (Err fault) = Unit {0}
+
+-- A request that has a report needs a record.
+pub report-needs : (version : ℕ) (sheet : SheetView) (tree : TreeView) (request : Request) (text : List ℕ)
+    → IsReport version sheet tree request text → IsTrue (needs_record request)
+report-needs version sheet tree Nothing text report = absurd report
+report-needs version sheet tree Load text report = absurd report
+report-needs version sheet tree Bye text report = absurd report
+report-needs version sheet tree request text report = refl
 
 -- Such an answer is right for a line that is none of the three.
 pub kind_of_other : (answer : Result Request RequestFault) (load bye : Bool) → IsOther answer → load ≡ false
     → bye ≡ false → IsKind answer false load bye
-kind_of_other (Ok Nothing) load bye other no_load no_bye = absurd other
-kind_of_other (Ok Load) load bye other no_load no_bye = absurd other
-kind_of_other (Ok Bye) load bye other no_load no_bye = absurd other
+kind_of_other (Ok Nothing) load bye other no_load no_bye = absurd (false≢true other)
+kind_of_other (Ok Load) load bye other no_load no_bye = absurd (false≢true other)
+kind_of_other (Ok Bye) load bye other no_load no_bye = absurd (false≢true other)
 kind_of_other answer load bye other no_load no_bye = (refl, no_load, no_bye)
 
 -- A request about two routers, or the fault for which there are no two, is such an answer.
@@ -48,20 +56,22 @@ other_about request (Err fault) other = tt
 
 -- So is what `WEAKEST` gives, whatever stands behind it.
 other_weakest : (sheet : Option SheetView) (words : List (List ℕ)) → IsOther (weakest_of sheet words)
-other_weakest sheet (word ∷ words) = tt
 other_weakest None [] = tt
+other_weakest None (word ∷ words) = tt
+other_weakest (Some sheet) (word ∷ words) = tt
 other_weakest (Some sheet) [] = chosen (nat_lt (terminal_count sheet.net) 2)
   where
     chosen : (few : Bool) → IsOther (if few then Err OneRouter else Ok Weakest)
     chosen true = tt
-    chosen false = tt
+    chosen false = refl
 
--- A word that asks for the network gives what it asks or a fault, whatever stands behind it.
-other_of_network : (request : Request) (sheet : Option SheetView) (words : List (List ℕ)) → IsOther (Ok request)
-    → IsOther (of_network request sheet words)
-other_of_network request sheet (word ∷ words) other = tt
-other_of_network request None [] other = tt
-other_of_network request (Some sheet) [] other = other
+-- So does a word that needs a record, whatever stands behind it.
+other_alone : (request : Request) (sheet : Option SheetView) (words : List (List ℕ)) → IsTrue (needs_record request)
+    → IsOther (alone request sheet words)
+other_alone request None [] needs = rw needs tt
+other_alone request None (word ∷ words) needs = tt
+other_alone request (Some sheet) [] needs = needs
+other_alone request (Some sheet) (word ∷ words) needs = tt
 
 -- A word that is the one isn't the other.
 not_both : (word one other : List ℕ) → bytes_eq one other ≡ false → bytes_eq word one ≡ true
@@ -69,10 +79,11 @@ not_both : (word one other : List ℕ) → bytes_eq one other ≡ false → byte
 not_both word one other differ is = ap (λ text. bytes_eq text other) ((bytes_eq-Decides word one).0 is) ∙ differ
 
 -- The word that begins a text does so alone, and else the words behind it in the order of the tests tell.
-kind_load : (load : Bool) (rest : Result Request RequestFault) (bye : Bool) → IsKind rest false false bye
-    → IsKind (if load then Ok Load else rest) false load bye
-kind_load true rest bye kind = (refl, refl)
-kind_load false rest bye kind = kind
+kind_load : (load : Bool) (sheet : Option SheetView) (rest : Result Request RequestFault) (bye : Bool)
+    → IsKind rest false false bye → IsKind (if load then alone Load sheet [] else rest) false load bye
+kind_load true None rest bye kind = (refl, refl)
+kind_load true (Some sheet) rest bye kind = (refl, refl)
+kind_load false sheet rest bye kind = kind
 
 -- A word that isn't the one that ends the session asks something of a record, or else the later tests tell.
 kind_past : (is : Bool) (answer rest : Result Request RequestFault) (bye : Bool) → (is ≡ true → bye ≡ false)
@@ -81,26 +92,28 @@ kind_past true answer rest bye no_bye other kind = kind_of_other answer false by
 kind_past false answer rest bye no_bye other kind = kind
 
 -- The last test is for the word that ends the session.
-kind_bye : (bye : Bool) → IsKind (if bye then Ok Bye else Err UnknownWord) false false bye
-kind_bye true = (refl, refl, refl)
-kind_bye false = (refl, refl, refl)
+kind_bye : (bye : Bool) (sheet : Option SheetView)
+    → IsKind (if bye then alone Bye sheet [] else Err UnknownWord) false false bye
+kind_bye true None = (refl, refl, refl)
+kind_bye true (Some sheet) = (refl, refl, refl)
+kind_bye false sheet = (refl, refl, refl)
 
 -- One word alone begins a text, or ends the session, or does neither.
 kind_of_one : (sheet : Option SheetView) (word : List ℕ)
     → IsKind (words_ask sheet (word ∷ [])) false (bytes_eq word (codes "LOAD")) (bytes_eq word (codes "BYE"))
 kind_of_one sheet word =
     let bye = bytes_eq word (codes "BYE") in
-    kind_load (bytes_eq word (codes "LOAD")) _ bye
+    kind_load (bytes_eq word (codes "LOAD")) sheet _ bye
     (kind_past (bytes_eq word (codes "CUT")) _ _ bye (not_both word (codes "CUT") (codes "BYE") refl) tt
     (kind_past (bytes_eq word (codes "PATH")) _ _ bye (not_both word (codes "PATH") (codes "BYE") refl) tt
     (kind_past (bytes_eq word (codes "TREE")) _ _ bye (not_both word (codes "TREE") (codes "BYE") refl)
-    (other_of_network Tree sheet [] tt)
+    (other_alone Tree sheet [] refl)
     (kind_past (bytes_eq word (codes "RUN")) _ _ bye (not_both word (codes "RUN") (codes "BYE") refl)
-    (other_of_network Run sheet [] tt)
+    (other_alone Run sheet [] refl)
     (kind_past (bytes_eq word (codes "NET")) _ _ bye (not_both word (codes "NET") (codes "BYE") refl)
-    (other_of_network Net sheet [] tt)
+    (other_alone Net sheet [] refl)
     (kind_past (bytes_eq word (codes "WEAKEST")) _ _ bye (not_both word (codes "WEAKEST") (codes "BYE") refl)
-    (other_weakest sheet []) (kind_bye bye)))))))
+    (other_weakest sheet []) (kind_bye bye sheet)))))))
 
 -- Several words do neither.
 kind_of_more : (sheet : Option SheetView) (word second : List ℕ) (words : List (List ℕ))
@@ -108,12 +121,12 @@ kind_of_more : (sheet : Option SheetView) (word second : List ℕ) (words : List
 kind_of_more sheet word second words =
     let ends = ends_of sheet (second ∷ words) in
     neither (bytes_eq word (codes "LOAD")) _ _ tt
-    (neither (bytes_eq word (codes "CUT")) _ _ (other_about Cut ends (λ a b. tt))
-    (neither (bytes_eq word (codes "PATH")) _ _ (other_about Path ends (λ a b. tt))
+    (neither (bytes_eq word (codes "CUT")) _ _ (other_about Cut ends (λ a b. refl))
+    (neither (bytes_eq word (codes "PATH")) _ _ (other_about Path ends (λ a b. refl))
     (neither (bytes_eq word (codes "TREE")) _ _ tt
     (neither (bytes_eq word (codes "RUN")) _ _ tt
     (neither (bytes_eq word (codes "NET")) _ _ tt
-    (neither (bytes_eq word (codes "WEAKEST")) _ _ tt
+    (neither (bytes_eq word (codes "WEAKEST")) _ _ (other_weakest sheet (second ∷ words))
     (neither (bytes_eq word (codes "BYE")) _ _ tt (refl, refl, refl))))))))
   where
     neither : (is : Bool) (answer rest : Result Request RequestFault) → IsOther answer
@@ -177,7 +190,8 @@ only_other : (answer : Result Request RequestFault) → IsKind answer false fals
 only_other (Ok Nothing) kind = absurd (false≢true kind)
 only_other (Ok Load) kind = absurd (false≢true kind.1)
 only_other (Ok Bye) kind = absurd (false≢true kind.2)
-only_other answer kind = tt
+only_other (Ok request) kind = refl
+only_other (Err fault) kind = tt
 
 -- An answer to a line has the line's kind.
 pub answer_kind : (sheet : Option SheetView) (line : List ℕ) (answer : Result Request RequestFault)
@@ -215,9 +229,9 @@ asks_bye sheet line =
 -- A line with such an answer is none of the three.
 other_kind : (answer : Result Request RequestFault) (passed load bye : Bool) → IsOther answer
     → IsKind answer passed load bye → (passed ≡ false) × (load ≡ false) × (bye ≡ false)
-other_kind (Ok Nothing) passed load bye other kind = absurd other
-other_kind (Ok Load) passed load bye other kind = absurd other
-other_kind (Ok Bye) passed load bye other kind = absurd other
+other_kind (Ok Nothing) passed load bye other kind = absurd (false≢true other)
+other_kind (Ok Load) passed load bye other kind = absurd (false≢true other)
+other_kind (Ok Bye) passed load bye other kind = absurd (false≢true other)
 other_kind answer passed load bye other kind = kind
 
 -- Where a line asks something of a record or has a fault, it is none of the three.

@@ -1,6 +1,6 @@
 -- What a request line asks for.
-use Rattle.std.specs.Prelude.{◌≢◌, ℕ, ◌≤◌, nat_lt, List, [], ◌∷◌, ◌==◌, if◌then◌else◌, codes}
-use Rattle.std.specs.Prelude.{Some, None, Result, Ok, Err}
+use Rattle.std.specs.Prelude.{◌≢◌, ℕ, ◌≤◌, nat_lt, List, [], ◌∷◌, ◌==◌, if◌then◌else◌, codes, Bool, true, false}
+use Rattle.std.specs.Prelude.{Some, None, Result, Ok, Err, IsFalse}
 use Rattle.std.specs.Str.{bytes_eq}
 use Rattle.std.specs.declared.option.Option.{Option}
 use Rattle.cut_model.specs.Terminals.{IsTerminal, terminal_count}
@@ -25,10 +25,19 @@ fault_number SameRouter = 5
 fault_number NoNetwork = 6
 fault_number OneRouter = 8
 
--- A request of one word, by the words behind it.
-abbrev pub alone : Request → List (List ℕ) → Result Request RequestFault
-alone request [] = Ok request
-alone request (word ∷ words) = Err WrongCount
+-- Whether a request asks for something of a record: of a network, its tree, or the run that made it. To begin a network
+-- text, to end the session, and an empty line don't.
+abbrev pub needs_record : Request → Bool
+needs_record Nothing = false
+needs_record Load = false
+needs_record Bye = false
+needs_record request = true
+
+-- A request of one word, by the words behind it: one that needs a record is refused where there is none.
+abbrev pub alone : Request → Option SheetView → List (List ℕ) → Result Request RequestFault
+alone request sheet (word ∷ words) = Err WrongCount
+alone request None [] = if needs_record request then Err NoNetwork else Ok request
+alone request (Some sheet) [] = Ok request
 
 -- Two routers, where they are known and differ.
 abbrev pub ends_between : Option ℕ → Option ℕ → Result (ℕ × ℕ) RequestFault
@@ -51,30 +60,23 @@ abbrev pub about : (ℕ → ℕ → Request) → Result (ℕ × ℕ) RequestFaul
 about request (Ok ends) = Ok (request ends.0 ends.1)
 about request (Err fault) = Err fault
 
--- A request of one word that asks for the network that there is, by the words behind it.
-abbrev pub of_network : Request → Option SheetView → List (List ℕ) → Result Request RequestFault
-of_network request sheet (word ∷ words) = Err WrongCount
-of_network request None [] = Err NoNetwork
-of_network request (Some sheet) [] = Ok request
-
--- No words are behind `WEAKEST`, and there is a network with two terminals or more.
+-- `WEAKEST` is such a request, and refused where the network has one terminal alone.
 abbrev pub weakest_of : Option SheetView → List (List ℕ) → Result Request RequestFault
-weakest_of sheet (word ∷ words) = Err WrongCount
-weakest_of None [] = Err NoNetwork
 weakest_of (Some sheet) [] = if nat_lt (terminal_count sheet.net) 2 then Err OneRouter else Ok Weakest
+weakest_of sheet words = alone Weakest sheet words
 
 -- The first word says what is asked for.
 abbrev pub words_ask : Option SheetView → List (List ℕ) → Result Request RequestFault
 words_ask sheet [] = Ok Nothing
 words_ask sheet (word ∷ words) =
-    if bytes_eq word (codes "LOAD") then alone Load words
+    if bytes_eq word (codes "LOAD") then alone Load sheet words
     else if bytes_eq word (codes "CUT") then about Cut (ends_of sheet words)
     else if bytes_eq word (codes "PATH") then about Path (ends_of sheet words)
-    else if bytes_eq word (codes "TREE") then of_network Tree sheet words
-    else if bytes_eq word (codes "RUN") then of_network Run sheet words
-    else if bytes_eq word (codes "NET") then of_network Net sheet words
+    else if bytes_eq word (codes "TREE") then alone Tree sheet words
+    else if bytes_eq word (codes "RUN") then alone Run sheet words
+    else if bytes_eq word (codes "NET") then alone Net sheet words
     else if bytes_eq word (codes "WEAKEST") then weakest_of sheet words
-    else if bytes_eq word (codes "BYE") then alone Bye words
+    else if bytes_eq word (codes "BYE") then alone Bye sheet words
     else Err UnknownWord
 
 -- What a line asks for with the network that there is, or the first fault: too long, an unknown word, another number
@@ -94,21 +96,11 @@ abbrev pub HasEnds : Option SheetView → ℕ → ℕ → Type 0
 HasEnds None a b = ⊥
 HasEnds (Some sheet) a b = AreEnds sheet a b
 
--- What a request asks of the network that there is: CUT and PATH two different terminals of it, TREE, RUN and NET that
--- there is one, and WEAKEST two terminals or more.
+-- A request fits the network that there is: one that needs a record has one, CUT and PATH tell two different terminals
+-- of it, and WEAKEST is asked where there are two terminals or more.
 abbrev pub IsOf : Option SheetView → Request → Type 0
-IsOf sheet (Cut a b) = HasEnds sheet a b
-IsOf sheet (Path a b) = HasEnds sheet a b
-IsOf None Tree = ⊥
-IsOf None Run = ⊥
-IsOf None Net = ⊥
-IsOf None Weakest = ⊥
+IsOf None request = IsFalse (needs_record request)
+IsOf (Some sheet) (Cut a b) = AreEnds sheet a b
+IsOf (Some sheet) (Path a b) = AreEnds sheet a b
 IsOf (Some sheet) Weakest = 2 ≤ terminal_count sheet.net
-IsOf sheet _ = Unit {0}
-
--- A request that is answered from a network and its tree.
-abbrev pub IsReported : Request → Type 0
-IsReported Nothing = ⊥
-IsReported Load = ⊥
-IsReported Bye = ⊥
-IsReported _ = Unit {0}
+IsOf (Some sheet) request = Unit {0}

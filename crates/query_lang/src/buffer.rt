@@ -1,16 +1,17 @@
 //! The room in which a session gathers one reply before it is put.
-ghost use Rattle.std.specs.Prelude.{◌≡◌, ◌+◌, ◌≤◌, [], Some, IfOk, length, nat_le};
+ghost use Rattle.std.specs.Prelude.{◌≡◌, ◌+◌, ◌≤◌, [], Some, IfOk, IsTrue, length, nat_le};
 ghost use Rattle.std.specs.Prelude.{vec_capacity, vec_len};
 ghost use Rattle.path_minimum.specs.Ladders.{IsLadderOf};
 ghost use Rattle.query_lang.specs.Replies.{bye_text, loaded_text, refused_text};
 ghost use Rattle.query_lang.specs.Reports.{IsReport};
-ghost use Rattle.query_lang.specs.Requests.{IsOf, IsReported};
+ghost use Rattle.query_lang.specs.Requests.{IsOf, needs_record};
+ghost use Rattle.query_lang.specs.declared.buffer.TheConstants.{MOST_REPLY_BYTES};
 ghost use Rattle.wires.specs.Beside.{nothing_beside};
 
 use crate::Request;
 use crate::replies::{write_bye, write_loaded, write_refusal};
 use crate::reports::write_reply;
-use cut_model::{Network, NoMemory};
+use cut_model::{MOST_LINKS, MOST_ROUTERS, Network, NoMemory};
 use network_text::Sheet;
 use path_minimum::{Ladder, PathRoom};
 use std::alloc::Global;
@@ -18,41 +19,41 @@ use std::marker::Model;
 use tree_state::Finished;
 use wires::{Failed, Sink};
 
-/// The most bytes that are gathered. The longest reply is that to NET for the largest network with
-/// names of 32 bytes, which has some 737,300.
-const ROOM: usize = 740_000;
+/// The most bytes that are gathered for a reply. The longest one is that to NET for the largest network
+/// with the longest names, which has some 737,300.
+pub const MOST_REPLY_BYTES: usize = 740_000;
 
 /// A sink in memory, which takes pieces up to its room and refuses a piece that doesn't fit whole.
 #[derive(Drop)]
-struct Gathered {
+struct ReplySink {
     bytes: Vec<u8>,
     faults: u64,
-    ghost reserved: { 740000 ≤ vec_capacity bytes },
-    ghost within: { vec_len bytes ≤ 740000 },
+    ghost reserved: { MOST_REPLY_BYTES ≤ vec_capacity bytes },
+    ghost within: { vec_len bytes ≤ MOST_REPLY_BYTES },
 }
 
-impl Gathered {
-    fn with_room(alloc: Global) -> Result<Gathered, NoMemory>
+impl ReplySink {
+    fn with_room(alloc: Global) -> Result<ReplySink, NoMemory>
         ensures { IfOk result (λ gathered. gathered.bytes.items ≡ []) }
     {
-        Ok(Gathered {
-            bytes: Vec::with_capacity(alloc, ROOM)?,
+        Ok(ReplySink {
+            bytes: Vec::with_capacity(alloc, MOST_REPLY_BYTES)?,
             faults: 0,
         })
     }
 }
 
-impl Sink for Gathered {
+impl Sink for ReplySink {
     ghost written = { λ gathered. Some gathered.bytes.items };
 
     ghost write_faults = { λ gathered. gathered.faults };
 
     ghost beside_sink = { λ _. nothing_beside };
 
-    ghost takes = { λ gathered n. nat_le (length gathered.bytes.items + n) 740000 };
+    ghost takes = { λ gathered n. nat_le (length gathered.bytes.items + n) MOST_REPLY_BYTES };
 
     fn put(&mut self, bytes: &[u8]) -> Result<(), Failed> {
-        if bytes.len() > ROOM - self.bytes.len() {
+        if bytes.len() > MOST_REPLY_BYTES - self.bytes.len() {
             self.faults = self.faults.saturating_add(1);
             return Err(Failed);
         }
@@ -61,21 +62,22 @@ impl Sink for Gathered {
     }
 }
 
-/// Room for one reply of up to 740,000 bytes, more than any reply has. Its memory is taken when it
+/// Room for one reply of [`MOST_REPLY_BYTES`] bytes, more than any reply has. Its memory is taken when it
 /// is made, and a reply that is gathered in it takes none. Contracts see the bytes.
 #[derive(Drop)]
 pub struct ReplyBuffer {
-    gathered: Gathered,
+    gathered: ReplySink,
 }
 
 impl Model for ReplyBuffer {
     ghost use Rattle.std.specs.Prelude.{ℕ, List, ◌≤◌, length};
+    ghost use Rattle.query_lang.specs.declared.buffer.TheConstants.{MOST_REPLY_BYTES};
 
     ghost Value = { List ℕ };
 
     ghost view = { λ buffer. buffer.gathered.bytes.items };
 
-    ghost invariant = { λ buffer. length buffer.gathered.bytes.items ≤ 740000 };
+    ghost invariant = { λ buffer. length buffer.gathered.bytes.items ≤ MOST_REPLY_BYTES };
 }
 
 impl ReplyBuffer {
@@ -87,14 +89,14 @@ impl ReplyBuffer {
         ensures { IfOk result (λ buffer. buffer ≡ []) }
     {
         Ok(ReplyBuffer {
-            gathered: Gathered::with_room(alloc)?,
+            gathered: ReplySink::with_room(alloc)?,
         })
     }
 
     /// The bytes of the reply that was gathered last.
     pub fn bytes(&self) -> &[u8]
         ensures value { result.now ≡ self.now }
-        ensures few { length result.now ≤ 740000 }
+        ensures few { length result.now ≤ MOST_REPLY_BYTES }
     {
         self.gathered.bytes.as_slice()
     }
@@ -119,14 +121,14 @@ pub fn report_reply(
     request: &Request,
     room: &mut PathRoom,
 )
-    requires reported { IsReported request.now }
+    requires needs { IsTrue (needs_record request.now) }
     requires of { IsOf (Some sheet.now) request.now }
     requires same { finished.now.tree.net ≡ sheet.now.net }
     requires ladder { IsLadderOf finished.now.tree ladder.now }
     ensures { IsReport version sheet.now finished.now.tree request.now buffer.new }
 {
-    prove!(sheet.net().links().len() <= 8192);
-    prove!(finished.commits() < 1024);
+    prove!(sheet.net().links().len() <= MOST_LINKS);
+    prove!(finished.commits() < MOST_ROUTERS);
     let gathered = &mut buffer.gathered;
     gathered.bytes.clear();
     write_reply(version, sheet, finished, ladder, request, room, gathered).unwrap();

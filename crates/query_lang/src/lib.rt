@@ -12,11 +12,14 @@ pub mod laws;
 mod replies;
 mod reports;
 mod request;
+mod shown;
 #[cfg(test)]
 mod tests;
 mod trees;
 
-pub use buffer::{ReplyBuffer, bye_reply, loaded_reply, refusal_reply, report_reply};
+pub use buffer::{
+    MOST_REPLY_BYTES, ReplyBuffer, bye_reply, loaded_reply, refusal_reply, report_reply,
+};
 pub use replies::{write_bye, write_head, write_loaded, write_refusal};
 pub use reports::write_reply;
 pub use request::{Request, RequestFault, parse_request};

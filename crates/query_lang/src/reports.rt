@@ -1,16 +1,18 @@
 //! Replies that are read from a network and its tree.
-ghost use Rattle.std.specs.Prelude.{◌≡◌, ◌≤◌, Some};
+ghost use Rattle.std.specs.Prelude.{◌≡◌, ◌≤◌, IsTrue, Some};
 ghost use Rattle.cut_model.specs.Terminals.{terminal_count};
 ghost use Rattle.path_minimum.specs.Ladders.{IsLadderOf};
 ghost use Rattle.query_lang.specs.Replies.{net_text, sheet_lines};
 ghost use Rattle.query_lang.specs.Reports.{IsCutReport, IsPathReport, IsReport, IsWeakestReport, PutsSome};
-ghost use Rattle.query_lang.specs.Requests.{AreEnds, IsOf, IsReported};
+ghost use Rattle.query_lang.specs.Requests.{AreEnds, IsOf, needs_record};
 ghost use Rattle.wires.specs.Puts.{Puts};
 
 use crate::Request;
 use crate::cuts::write_cut;
 use crate::replies::write_head;
+use crate::shown::Shown;
 use crate::trees::{write_path, write_run, write_tree};
+use cut_model::MOST_ROUTERS;
 use network_text::{Sheet, write_sheet};
 use path_minimum::{Ladder, PathRoom, least_on_path_uncounted, path, side_holding, weakest};
 use tree_state::{Finished, side_below};
@@ -38,63 +40,51 @@ fn write_net<K: Sink>(version: u32, sheet: &Sheet, sink: &mut K) -> Result<(), F
 /// with the routers on the first one's side.
 fn write_least_cut<K: Sink>(
     version: u32,
-    sheet: &Sheet,
-    finished: &Finished,
-    ladder: &Ladder,
+    shown: &Shown,
     a: u32,
     b: u32,
     sink: &mut K,
 ) -> Result<(), Failed>
-    requires ends { AreEnds sheet.now a b }
-    requires same { finished.now.tree.net ≡ sheet.now.net }
-    requires ladder { IsLadderOf finished.now.tree ladder.now }
+    requires { AreEnds shown.now.sheet.now a b }
     ensures puts { PutsSome K.Sink sink.old sink.new result
-        (IsCutReport version sheet.now finished.now.tree a b) }
+        (IsCutReport version shown.now.sheet.now shown.now.finished.now.tree a b) }
 {
-    prove!(a.max(b) < sheet.net().routers());
-    let least = least_on_path_uncounted(ladder, finished, a, b);
-    let side = side_holding(finished, least.child, a);
-    write_cut(version, "CUT", least.width, sheet, &side, sink)
+    prove!(a.max(b) < shown.sheet.net().routers());
+    let least = least_on_path_uncounted(shown.ladder, shown.finished, a, b);
+    let side = side_holding(shown.finished, least.child, a);
+    write_cut(version, "CUT", least.width, shown.sheet, &side, sink)
 }
 
 /// Writes the reply to PATH: the edges of the path between two terminals, in their order.
 fn write_ordered_path<K: Sink>(
     version: u32,
-    sheet: &Sheet,
-    finished: &Finished,
+    shown: &Shown,
     a: u32,
     b: u32,
     room: &mut PathRoom,
     sink: &mut K,
 ) -> Result<(), Failed>
-    requires ends { AreEnds sheet.now a b }
-    requires same { finished.now.tree.net ≡ sheet.now.net }
+    requires { AreEnds shown.now.sheet.now a b }
     ensures puts { PutsSome K.Sink sink.old sink.new result
-        (IsPathReport version sheet.now finished.now.tree a b) }
+        (IsPathReport version shown.now.sheet.now shown.now.finished.now.tree a b) }
 {
-    path(finished, a, b, room);
-    write_path(version, sheet, finished, room.children(), sink)
+    path(shown.finished, a, b, room);
+    write_path(version, shown, room.children(), sink)
 }
 
 /// Writes the reply to WEAKEST: the weakest edge gives a least cut of the whole network, with the
 /// routers below it.
-fn write_weakest<K: Sink>(
-    version: u32,
-    sheet: &Sheet,
-    finished: &Finished,
-    sink: &mut K,
-) -> Result<(), Failed>
-    requires some { 2 ≤ terminal_count sheet.now.net }
-    requires same { finished.now.tree.net ≡ sheet.now.net }
+fn write_weakest<K: Sink>(version: u32, shown: &Shown, sink: &mut K) -> Result<(), Failed>
+    requires { 2 ≤ terminal_count shown.now.sheet.now.net }
     ensures puts { PutsSome K.Sink sink.old sink.new result
-        (IsWeakestReport version sheet.now finished.now.tree) }
+        (IsWeakestReport version shown.now.sheet.now shown.now.finished.now.tree) }
 {
-    prove!(sheet.net().routers() <= 1024);
-    let Some(least) = weakest(finished) else {
+    prove!(shown.sheet.net().routers() <= MOST_ROUTERS);
+    let Some(least) = weakest(shown.finished) else {
         unreachable!()
     };
-    let side = side_below(finished, least.child);
-    write_cut(version, "WEAKEST", least.width, sheet, &side, sink)
+    let side = side_below(shown.finished, least.child);
+    write_cut(version, "WEAKEST", least.width, shown.sheet, &side, sink)
 }
 
 /// Writes the reply to CUT, PATH, TREE, RUN, NET or WEAKEST, from a network with the names of its
@@ -112,20 +102,25 @@ pub fn write_reply<K: Sink>(
     room: &mut PathRoom,
     sink: &mut K,
 ) -> Result<(), Failed>
-    requires reported { IsReported request.now }
+    requires needs { IsTrue (needs_record request.now) }
     requires of { IsOf (Some sheet.now) request.now }
     requires same { finished.now.tree.net ≡ sheet.now.net }
     requires ladder { IsLadderOf finished.now.tree ladder.now }
     ensures puts { PutsSome K.Sink sink.old sink.new result
         (IsReport version sheet.now finished.now.tree request.now) }
 {
+    let shown = Shown {
+        sheet,
+        finished,
+        ladder,
+    };
     match *request {
-        Request::Cut(a, b) => write_least_cut(version, sheet, finished, ladder, a, b, sink),
-        Request::Path(a, b) => write_ordered_path(version, sheet, finished, a, b, room, sink),
-        Request::Tree => write_tree(version, sheet, finished, sink),
-        Request::Run => write_run(version, sheet, finished, sink),
+        Request::Cut(a, b) => write_least_cut(version, &shown, a, b, sink),
+        Request::Path(a, b) => write_ordered_path(version, &shown, a, b, room, sink),
+        Request::Tree => write_tree(version, &shown, sink),
+        Request::Run => write_run(version, &shown, sink),
         Request::Net => write_net(version, sheet, sink),
-        Request::Weakest => write_weakest(version, sheet, finished, sink),
+        Request::Weakest => write_weakest(version, &shown, sink),
         Request::Nothing | Request::Load | Request::Bye => unreachable!(),
     }
 }

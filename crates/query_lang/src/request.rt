@@ -1,9 +1,9 @@
 //! Request lines: what each asks for.
-ghost use Rattle.std.specs.Prelude.{◌≡◌, IfOk, Some};
+ghost use Rattle.std.specs.Prelude.{◌≡◌, IfOk};
 ghost use Rattle.std.specs.Option.{option_copied};
 ghost use Rattle.network_text.specs.Sheets.{number_of};
 ghost use Rattle.query_lang.specs.Requests.{AreEnds, HasEnds, IsOf, alone, ends_between, ends_of};
-ghost use Rattle.query_lang.specs.Requests.{fault_number, of_network, request_of, weakest_of, words_ask};
+ghost use Rattle.query_lang.specs.Requests.{fault_number, needs_record as needs, request_of, weakest_of, words_ask};
 ghost use Rattle.text_forms.specs.Words.{words_of};
 
 use network_text::Sheet;
@@ -35,6 +35,24 @@ pub enum Request {
     Bye,
 }
 
+impl Request {
+    /// Whether it asks for something of a record: of a network, its tree, or the run that made it.
+    /// So `Request::Tree.needs_record()` is true, and `Request::Bye.needs_record()` isn't.
+    pub fn needs_record(&self) -> bool
+        ensures { result ≡ needs self.now }
+    {
+        match self {
+            Request::Nothing | Request::Load | Request::Bye => false,
+            Request::Cut(_, _)
+            | Request::Path(_, _)
+            | Request::Tree
+            | Request::Run
+            | Request::Net
+            | Request::Weakest => true,
+        }
+    }
+}
+
 /// Why a request line is refused. The first applies in this order: `LineTooLong`, `UnknownWord`,
 /// `WrongCount`, `NoNetwork`, `UnknownRouter`, `SameRouter`, `OneRouter`.
 #[derive(Clone, Copy, PartialEq, Eq, Debug, Error)]
@@ -42,7 +60,7 @@ pub enum RequestFault {
     /// The first word is no request word.
     #[error("unknown word")]
     UnknownWord,
-    /// The line has more than 512 bytes.
+    /// The line has more than `MOST_LINE_BYTES` bytes.
     #[error("line too long")]
     LineTooLong,
     /// The request asks for another number of words.
@@ -80,12 +98,15 @@ impl RequestFault {
 }
 
 /// What the line asks for, by the names of the sheet. A line is given without its line feed; of one
-/// of more than 512 bytes the first 513 suffice. It takes no memory, and goes over the line a few
-/// times.
+/// that is too long, one byte more than the most suffices. It takes no memory, and goes over the line
+/// a few times.
+///
+/// Where `a` and `b` are the first two routers, `parse_request(b"CUT b a", Some(&sheet))` gives
+/// `Ok(Request::Cut(1, 0))`.
 ///
 /// # Errors
-/// The first fault that applies. `NoNetwork` where there is no sheet, for each request but LOAD and
-/// BYE.
+/// The first fault that applies. `NoNetwork` where there is no sheet, for each request that needs a
+/// record.
 pub fn parse_request(line: &[u8], sheet: Option<&Sheet>) -> Result<Request, RequestFault>
     ensures value { result ≡ request_of (option_copied sheet.entry) line.now }
     ensures of { IfOk result (IsOf (option_copied sheet.entry)) }
@@ -108,7 +129,7 @@ fn parse_words(text: &[u8], sheet: Option<&Sheet>) -> Result<Request, RequestFau
         return Ok(Request::Nothing);
     };
     if word == b"LOAD".as_slice() {
-        parse_alone(Request::Load, behind)
+        parse_alone(Request::Load, behind, sheet)
     } else if word == b"CUT".as_slice() {
         let (a, b) = parse_ends(behind, sheet)?;
         Ok(Request::Cut(a, b))
@@ -116,40 +137,33 @@ fn parse_words(text: &[u8], sheet: Option<&Sheet>) -> Result<Request, RequestFau
         let (a, b) = parse_ends(behind, sheet)?;
         Ok(Request::Path(a, b))
     } else if word == b"TREE".as_slice() {
-        parse_of_network(Request::Tree, behind, sheet)
+        parse_alone(Request::Tree, behind, sheet)
     } else if word == b"RUN".as_slice() {
-        parse_of_network(Request::Run, behind, sheet)
+        parse_alone(Request::Run, behind, sheet)
     } else if word == b"NET".as_slice() {
-        parse_of_network(Request::Net, behind, sheet)
+        parse_alone(Request::Net, behind, sheet)
     } else if word == b"WEAKEST".as_slice() {
         parse_weakest(behind, sheet)
     } else if word == b"BYE".as_slice() {
-        parse_alone(Request::Bye, behind)
+        parse_alone(Request::Bye, behind, sheet)
     } else {
         Err(RequestFault::UnknownWord)
     }
 }
 
-/// A request of one word, by what stands behind it.
-fn parse_alone(request: Request, text: &[u8]) -> Result<Request, RequestFault>
-    ensures { result ≡ alone request (words_of text.now) }
-{
-    if split_word(text).is_some() {
-        return Err(RequestFault::WrongCount);
-    }
-    Ok(request)
-}
-
-/// A request of one word that asks for the network that there is, by what stands behind the word.
-fn parse_of_network(
+/// A request of one word, by what stands behind it. One that needs a record is refused where there is
+/// none.
+fn parse_alone(
     request: Request,
     text: &[u8],
     sheet: Option<&Sheet>,
 ) -> Result<Request, RequestFault>
-    ensures { result ≡ of_network request (option_copied sheet.entry) (words_of text.now) }
+    ensures { result ≡ alone request (option_copied sheet.entry) (words_of text.now) }
 {
-    let request = parse_alone(request, text)?;
-    if sheet.is_none() {
+    if split_word(text).is_some() {
+        return Err(RequestFault::WrongCount);
+    }
+    if sheet.is_none() && request.needs_record() {
         return Err(RequestFault::NoNetwork);
     }
     Ok(request)
@@ -160,7 +174,7 @@ fn parse_weakest(text: &[u8], sheet: Option<&Sheet>) -> Result<Request, RequestF
     ensures value { result ≡ weakest_of (option_copied sheet.entry) (words_of text.now) }
     ensures of { IfOk result (IsOf (option_copied sheet.entry)) }
 {
-    let request = parse_alone(Request::Weakest, text)?;
+    let request = parse_alone(Request::Weakest, text, sheet)?;
     let known = sheet.ok_or(RequestFault::NoNetwork)?;
     if known.net().terminals() < 2 {
         return Err(RequestFault::OneRouter);

@@ -7,6 +7,7 @@ ghost use Rattle.query_lang.specs.Trees.{edge_line, path_text, run_text, tree_te
 ghost use Rattle.wires.specs.Puts.{Puts};
 
 use crate::replies::write_head;
+use crate::shown::Shown;
 use itoa::Buffer;
 use network_text::Sheet;
 use tree_state::{Entry, Finished};
@@ -39,49 +40,38 @@ fn write_edge<K: Sink>(
 }
 
 /// Writes the line of the edge that leads up from a router, with its width.
-fn write_child_line<K: Sink>(
-    sheet: &Sheet,
-    finished: &Finished,
-    child: u32,
-    sink: &mut K,
-) -> Result<(), Failed>
-    requires same { finished.now.tree.net ≡ sheet.now.net }
-    requires within { child < sheet.now.net.routers }
-    ensures puts { Puts K.Sink sink.old sink.new result (child_line sheet.now.names finished.now.tree child) }
+fn write_child_line<K: Sink>(shown: &Shown, child: u32, sink: &mut K) -> Result<(), Failed>
+    requires within { child < shown.now.sheet.now.net.routers }
+    ensures puts { Puts K.Sink sink.old sink.new result
+        (child_line shown.now.sheet.now.names shown.now.finished.now.tree child) }
 {
-    prove!(child < sheet.net().routers());
-    let above = finished.up(child);
-    write_edge(sheet, child, above, finished.width(child), sink)
+    prove!(child < shown.sheet.net().routers());
+    let above = shown.finished.up(child);
+    write_edge(shown.sheet, child, above, shown.finished.width(child), sink)
 }
 
 /// Writes the line of the edge that leads up from the router, where it is a terminal but not the root.
-fn write_child<K: Sink>(
-    sheet: &Sheet,
-    finished: &Finished,
-    router: u32,
-    sink: &mut K,
-) -> Result<(), Failed>
-    requires same { finished.now.tree.net ≡ sheet.now.net }
-    requires within { router < sheet.now.net.routers }
+fn write_child<K: Sink>(shown: &Shown, router: u32, sink: &mut K) -> Result<(), Failed>
+    requires within { router < shown.now.sheet.now.net.routers }
     ensures puts { Puts K.Sink sink.old sink.new result
-        (child_piece sheet.now.names finished.now.tree router) }
+        (child_piece shown.now.sheet.now.names shown.now.finished.now.tree router) }
 {
-    let net = sheet.net();
+    let net = shown.sheet.net();
     if net.is_terminal(router) && router != net.root() {
-        write_child_line(sheet, finished, router, sink)
+        write_child_line(shown, router, sink)
     } else {
         Ok(())
     }
 }
 
 /// Writes the lines of all edges, in the order of their lower ends.
-fn write_children<K: Sink>(sheet: &Sheet, finished: &Finished, sink: &mut K) -> Result<(), Failed>
-    requires { finished.now.tree.net ≡ sheet.now.net }
+fn write_children<K: Sink>(shown: &Shown, sink: &mut K) -> Result<(), Failed>
     ensures puts { Puts K.Sink sink.old sink.new result
-        (concat (map (child_line sheet.now.names finished.now.tree) (children_of finished.now.tree.net))) }
+        (concat (map (child_line shown.now.sheet.now.names shown.now.finished.now.tree)
+        (children_of shown.now.finished.now.tree.net))) }
 {
-    for router in 0..sheet.net().routers() {
-        write_child(sheet, finished, router, sink)?;
+    for router in 0..shown.sheet.net().routers() {
+        write_child(shown, router, sink)?;
     }
     Ok(())
 }
@@ -96,73 +86,61 @@ fn edge_count(finished: &Finished) -> u64
 
 /// Writes the tree, behind a first line that tells its number of edges.
 #[tactic(auto, unfolding(crate::specs::Trees::tree_text))]
-pub(crate) fn write_tree<K: Sink>(
-    version: u32,
-    sheet: &Sheet,
-    finished: &Finished,
-    sink: &mut K,
-) -> Result<(), Failed>
-    requires { finished.now.tree.net ≡ sheet.now.net }
-    ensures puts { Puts K.Sink sink.old sink.new result (tree_text version sheet.now finished.now.tree) }
+pub(crate) fn write_tree<K: Sink>(version: u32, shown: &Shown, sink: &mut K) -> Result<(), Failed>
+    ensures puts { Puts K.Sink sink.old sink.new result
+        (tree_text version shown.now.sheet.now shown.now.finished.now.tree) }
 {
-    write_head(version, "TREE", edge_count(finished), sink)?;
-    write_children(sheet, finished, sink)
+    write_head(version, "TREE", edge_count(shown.finished), sink)?;
+    write_children(shown, sink)
 }
 
 /// The entry of the commit at a place. The sheet has names for its two routers.
-fn named_entry<'a>(sheet: &Sheet, finished: &'a Finished, place: u32) -> &'a Entry
-    requires same { finished.now.tree.net ≡ sheet.now.net }
-    requires within { place < length finished.now.tree.history }
-    ensures value { slice_get finished.now.tree.history place ≡ Some result.now }
-    ensures router { result.now.router < length sheet.now.names }
-    ensures neighbour { result.now.neighbour < length sheet.now.names }
+fn named_entry<'a>(shown: &Shown<'a>, place: u32) -> &'a Entry
+    requires within { place < length shown.now.finished.now.tree.history }
+    ensures value { slice_get shown.now.finished.now.tree.history place ≡ Some result.now }
+    ensures router { result.now.router < length shown.now.sheet.now.names }
+    ensures neighbour { result.now.neighbour < length shown.now.sheet.now.names }
 {
-    prove!(finished.net().routers() == sheet.net().routers());
-    finished.entry(place)
+    prove!(shown.finished.net().routers() == shown.sheet.net().routers());
+    shown.finished.entry(place)
 }
 
 /// Writes the lines of all commits, the oldest first.
-fn write_commits<K: Sink>(sheet: &Sheet, finished: &Finished, sink: &mut K) -> Result<(), Failed>
-    requires { finished.now.tree.net ≡ sheet.now.net }
+fn write_commits<K: Sink>(shown: &Shown, sink: &mut K) -> Result<(), Failed>
     ensures puts { Puts K.Sink sink.old sink.new result
-        (concat (map (commit_line sheet.now.names) finished.now.tree.history)) }
+        (concat (map (commit_line shown.now.sheet.now.names) shown.now.finished.now.tree.history)) }
 {
-    for place in 0..finished.commits() {
-        let entry = named_entry(sheet, finished, place);
-        write_edge(sheet, entry.router, entry.neighbour, entry.value, sink)?;
+    for place in 0..shown.finished.commits() {
+        let entry = named_entry(shown, place);
+        write_edge(
+            shown.sheet,
+            entry.router,
+            entry.neighbour,
+            entry.value,
+            sink,
+        )?;
     }
     Ok(())
 }
 
 /// Writes the run that made the tree, behind a first line that tells its number of commits.
 #[tactic(auto, unfolding(crate::specs::Trees::run_text))]
-pub(crate) fn write_run<K: Sink>(
-    version: u32,
-    sheet: &Sheet,
-    finished: &Finished,
-    sink: &mut K,
-) -> Result<(), Failed>
-    requires { finished.now.tree.net ≡ sheet.now.net }
-    ensures puts { Puts K.Sink sink.old sink.new result (run_text version sheet.now finished.now.tree) }
+pub(crate) fn write_run<K: Sink>(version: u32, shown: &Shown, sink: &mut K) -> Result<(), Failed>
+    ensures puts { Puts K.Sink sink.old sink.new result
+        (run_text version shown.now.sheet.now shown.now.finished.now.tree) }
 {
-    write_head(version, "RUN", edge_count(finished), sink)?;
-    write_commits(sheet, finished, sink)
+    write_head(version, "RUN", edge_count(shown.finished), sink)?;
+    write_commits(shown, sink)
 }
 
 /// Writes the lines of the edges that lead up from these routers, in their order.
-fn write_edges<K: Sink>(
-    sheet: &Sheet,
-    finished: &Finished,
-    children: &[u32],
-    sink: &mut K,
-) -> Result<(), Failed>
-    requires same { finished.now.tree.net ≡ sheet.now.net }
-    requires within { All (λ child. child < sheet.now.net.routers) children.now }
+fn write_edges<K: Sink>(shown: &Shown, children: &[u32], sink: &mut K) -> Result<(), Failed>
+    requires within { All (λ child. child < shown.now.sheet.now.net.routers) children.now }
     ensures puts { Puts K.Sink sink.old sink.new result
-        (concat (map (child_line sheet.now.names finished.now.tree) children.now)) }
+        (concat (map (child_line shown.now.sheet.now.names shown.now.finished.now.tree) children.now)) }
 {
     for child in children {
-        write_child_line(sheet, finished, *child, sink)?;
+        write_child_line(shown, *child, sink)?;
     }
     Ok(())
 }
@@ -171,16 +149,14 @@ fn write_edges<K: Sink>(
 #[tactic(auto, unfolding(crate::specs::Trees::path_text))]
 pub(crate) fn write_path<K: Sink>(
     version: u32,
-    sheet: &Sheet,
-    finished: &Finished,
+    shown: &Shown,
     children: &[u32],
     sink: &mut K,
 ) -> Result<(), Failed>
-    requires same { finished.now.tree.net ≡ sheet.now.net }
-    requires within { All (λ child. child < sheet.now.net.routers) children.now }
+    requires within { All (λ child. child < shown.now.sheet.now.net.routers) children.now }
     ensures puts { Puts K.Sink sink.old sink.new result
-        (path_text version sheet.now finished.now.tree children.now) }
+        (path_text version shown.now.sheet.now shown.now.finished.now.tree children.now) }
 {
     write_head(version, "PATH", children.len() as u64, sink)?;
-    write_edges(sheet, finished, children, sink)
+    write_edges(shown, children, sink)
 }

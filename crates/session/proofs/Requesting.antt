@@ -5,9 +5,9 @@ use Rattle.std.specs.declared.option.Option.{Option}
 use Rattle.query_lang.specs.Replies.{bye_text}
 use Rattle.query_lang.specs.Requests.{request_of}
 use Rattle.query_lang.specs.declared.request.Request.{Request}
-use Rattle.query_lang.specs.declared.request.Request.TheVariants.{Nothing, Load, Cut, Path, Tree, Run, Net, Weakest, Bye}
+use Rattle.query_lang.specs.declared.request.Request.TheVariants.{Nothing, Load, Bye}
 use Rattle.query_lang.specs.declared.request.RequestFault.{RequestFault}
-use Rattle.query_lang.proofs.RequestKinds.{IsOther, answer_kind, other_asks}
+use Rattle.query_lang.proofs.RequestKinds.{IsOther, answer_kind, other_asks, report-needs}
 use Rattle.session.specs.Answers.{IsReply, RepliesTo, Step, sheet_in}
 use Rattle.session.specs.Modes.{next_text, gives, Gives}
 use Rattle.session.specs.Taking.{Holds, IsTaken, IsByeTaken}
@@ -15,7 +15,7 @@ use Rattle.session.specs.declared.intake.Intake.{Intake}
 use Rattle.session.proofs.Answering.{Gives-none, Gives-one, look_leads}
 use Rattle.text_forms.specs.Items.{Item, Ask, Bye as ByeItem}
 use Rattle.text_forms.specs.Words.{is_passed, is_load, is_bye}
-use Rattle.tree_versions.specs.Records.{RecordView, record_at}
+use Rattle.tree_versions.specs.Records.{RecordView, record_at, tree_of}
 use Rattle.tree_versions.specs.Shelves.{Looks}
 
 -- what is replied to is answered from a record, or refused
@@ -23,13 +23,8 @@ replied_other : (seen : Option RecordView) (version : ℕ) (answer : Result Requ
     → RepliesTo seen version answer reply → IsOther answer
 replied_other seen version (Err fault) reply replies = tt
 replied_other None version (Ok request) reply replies = absurd replies
-replied_other (Some seen) version (Ok (Cut a b)) reply replies = tt
-replied_other (Some seen) version (Ok (Path a b)) reply replies = tt
-replied_other (Some seen) version (Ok Tree) reply replies = tt
-replied_other (Some seen) version (Ok Run) reply replies = tt
-replied_other (Some seen) version (Ok Net) reply replies = tt
-replied_other (Some seen) version (Ok Weakest) reply replies = tt
-replied_other (Some seen) version (Ok request) reply replies = absurd replies
+replied_other (Some seen) version (Ok request) reply replies =
+    report-needs version seen.sheet (tree_of seen) request reply replies
 
 module _ (alone : Bool) (old new : List RecordView) (own own2 : ℕ) (few : length new ≤ 256)
     (looks : Looks alone old new) (kept : own2 ≡ own) (version : ℕ) (seen : Option RecordView)

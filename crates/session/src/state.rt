@@ -1,12 +1,12 @@
 //! The state of a session, and what each line does to it. Nothing here reads or writes.
 ghost use Rattle.std.specs.Prelude.{◌≡◌, ◌≢◌, ℕ, ◌+◌, ◌^◌, ◌<◌, ◌≤◌, List, [], None, Some, false};
-ghost use Rattle.std.specs.Prelude.{length, IfOk, Ok, IsFalse, if◌then◌else◌};
+ghost use Rattle.std.specs.Prelude.{length, IfOk, Ok, IsFalse, IsTrue, if◌then◌else◌};
 ghost use Rattle.std.specs.Arc.{arc_value};
 ghost use Rattle.std.specs.Option.{option_copied};
 ghost use Rattle.std.specs.declared.option.Option.{Option};
 ghost use Rattle.network_text.specs.Texts.{verdict_of};
 ghost use Rattle.query_lang.specs.Replies.{loaded_text, refused_text};
-ghost use Rattle.query_lang.specs.Requests.{IsOf, IsReported};
+ghost use Rattle.query_lang.specs.Requests.{IsOf, needs_record};
 ghost use Rattle.session.specs.Answers.{IsTextRefusal, RepliesTo, sheet_in};
 ghost use Rattle.session.specs.Modes.{Closing, Loads};
 ghost use Rattle.session.specs.Taking.{HasRead, Holds, LineTaken, is_stale, lines_in};
@@ -190,7 +190,7 @@ impl State {
 
     /// Makes the reply that is read from a record: from its network, its tree and its run.
     fn report(&mut self, version: u32, seen: Option<&Record>, request: &Request)
-        requires reported { IsReported request.now }
+        requires needs { IsTrue (needs_record request.now) }
         requires of { IsOf (sheet_in (option_copied seen)) request.now }
         ensures reply { RepliesTo (option_copied seen.entry) version (Ok request.now) self.new.reply }
         ensures intake { self.new.intake ≡ self.old.intake }

@@ -5,6 +5,7 @@ use Rattle.cut_model.proofs.Counting.{number_in-le}
 use Rattle.query_lang.specs.Reports.{IsReport}
 use Rattle.query_lang.proofs.Fits.{put_alone, takes_text}
 use Rattle.query_lang.proofs.Lengths.{length-report}
+use Rattle.cut_model.specs.declared.network.TheConstants.{MOST_ROUTERS}
 use Rattle.query_lang.proofs.buffer.report_reply.Goals as goal
 
 pub prove-unreachable-requires-2 : goal.prove-unreachable-requires-2
@@ -23,7 +24,7 @@ pub unwrap-requires : goal.unwrap-requires
 unwrap-requires c =
     let tree = c.args.finished.now.tree in
     let put = c.write_reply.ensures.puts in
-    let few : length tree.history ≤ 1024 = omega (arith, c.commits.ensures.value, c.if-prove-2.false) in
+    let few : length tree.history ≤ MOST_ROUTERS = omega (arith, c.commits.ensures.value, c.if-prove-2.false) in
     let short = length-report c.args.version c.args.sheet.now tree c.args.request.now put.text c.net.ensures.sheet
     c.requires.same few put.wanted in
     put.puts.sure 0 (takes_text _ put.text c.clear.ensures.items short)

@@ -1,14 +1,14 @@
 use Rattle.std.proofs.Common.{codes, subst, sym}
-use Rattle.cut_model.specs.Net.{Net, IsInLimits}
+use Rattle.cut_model.specs.Net.{IsInLimits}
 use Rattle.query_lang.specs.Replies.{cut_text}
 use Rattle.query_lang.proofs.CutReports.{weakest_report}
 use Rattle.query_lang.proofs.reports.write_weakest.Goals as goal
 
 pub returns : goal.returns
 returns g c =
-    let sheet = c.args.sheet.now in
-    let tree = c.args.finished.now.tree in
-    let limits = subst IsInLimits (sym c.requires.same) c.net.ensures.sheet.limits in
+    let sheet = c.args.shown.now.sheet.now in
+    let tree = c.args.shown.now.finished.now.tree in
+    let limits = subst IsInLimits (sym c.args.shown.now.same) c.net.ensures.sheet.limits in
     let least = c.in-Some.least in
     let side = c.side_below-side.result in
     record {
