@@ -1,10 +1,13 @@
 -- What a line adds to the names and links of a text.
-use Rattle.std.proofs.Common.{◌≡◌, ℕ, ◌-◌, ◌^◌, ◌<◌, List, [], ◌∷◌, true, min, nat_lt}
+use Rattle.std.proofs.Common.{◌≡◌, ℕ, ◌-◌, ◌^◌, ◌<◌, ◌≤◌, List, [], ◌∷◌, ◌++◌, Bool, true, false, not, min, nat_lt}
+use Rattle.std.proofs.Common.{length, length-append}
 use Rattle.std.proofs.Common.{Option, Some, None, refl, sym, ap, ◌∙◌, inl, inr, arith}
-use Rattle.std.specs.List.{position_or_len}
+use Rattle.std.specs.List.{list_any, position_or_len}
+use Rattle.std.specs.Str.{bytes_eq}
 use Rattle.std.specs.Option.{option_map}
-use Rattle.std.proofs.lemmas.Bool.{cases_Bool, ltb-true, ltb-false, lt-ltb}
+use Rattle.std.proofs.lemmas.Bool.{cases_Bool, le-ltb, ltb-true, ltb-false, lt-ltb}
 use Rattle.indexmap.specs.IndexSet.{insert_key}
+use Rattle.cut_model.specs.declared.network.TheConstants.{MOST_CAPACITY, MOST_ROUTERS}
 use Rattle.text_forms.specs.Names.{is_name}
 use Rattle.text_forms.specs.Numbers.{number_in}
 use Rattle.network_text.specs.Texts.{Draft, with_name, place_of, with_link, with_capacity, link_line}
@@ -24,13 +27,34 @@ placed keys new name place e at =
     at ∙ ap (λ eq. position_or_len (eq name) keys) eq-bytes_eq
     ∙ sym (place_of-own keys name) ∙ ap (λ names. place_of names name) (sym (inserted keys new name e))
 
+-- Among as many names as a network may have, a name is one too many where it isn't there.
+pub one_too_many : (keys : List (List ℕ)) (name : List ℕ) (known : Bool) → length keys ≡ MOST_ROUTERS
+    → known ≡ list_any ((eq-value).it name) keys → not known ≡ nat_lt MOST_ROUTERS (length (with_name keys name))
+one_too_many keys name known full is =
+    let same : known ≡ list_any (bytes_eq name) keys = is ∙ ap (λ eq. list_any (eq name) keys) eq-bytes_eq in
+    elim (cases_Bool (list_any (bytes_eq name) keys)) [
+      | inl there ↦
+          let few : length keys ≤ MOST_ROUTERS = omega arith in
+          rw (same, there, le-ltb MOST_ROUTERS (length keys) few) refl
+      | inr new ↦
+          let more : MOST_ROUTERS < length (keys ++ name ∷ []) = omega (arith, length-append keys (name ∷ [])) in
+          rw (same, new, lt-ltb MOST_ROUTERS (length (keys ++ name ∷ [])) more) refl
+    ]
+
+-- A name that isn't one too many leaves as many as a network may have, or fewer.
+pub inserted-few : (keys new : List (List ℕ)) (name : List ℕ) (many : Bool) → new ≡ insert_key (eq-value).it keys name
+    → many ≡ nat_lt MOST_ROUTERS (length (with_name keys name)) → many ≡ false → length new ≤ MOST_ROUTERS
+inserted-few keys new name many e is fits =
+    let few = ltb-false MOST_ROUTERS (length (with_name keys name)) (sym is ∙ fits) in
+    omega (arith, few, ap length (inserted keys new name e))
+
 -- A capacity that is too large may be told as any that is.
 with_link-too_large : (draft : Draft) (first second : List ℕ) (cap other : ℕ)
-    → 1000000000000 < cap → 1000000000000 < other
+    → MOST_CAPACITY < cap → MOST_CAPACITY < other
     → with_link draft first second cap ≡ with_link draft first second other
 with_link-too_large draft first second cap other large also =
-    let cap_test : nat_lt 1000000000000 cap ≡ true = lt-ltb _ _ large in
-    let other_test : nat_lt 1000000000000 other ≡ true = lt-ltb _ _ also in
+    let cap_test : nat_lt MOST_CAPACITY cap ≡ true = lt-ltb _ _ large in
+    let other_test : nat_lt MOST_CAPACITY other ≡ true = lt-ltb _ _ also in
     rw (cap_test, other_test) refl
 
 -- So a number past 64 bits may be told as the largest of 64 bits.

@@ -10,6 +10,7 @@ use Rattle.text_forms.specs.Names.{is_name}
 use Rattle.text_forms.specs.Numbers.{number_in}
 use Rattle.cut_model.specs.declared.network.Link.{Link}
 use Rattle.cut_model.specs.Net.{IsLink}
+use Rattle.cut_model.specs.declared.network.TheConstants.{MOST_CAPACITY, MOST_LINKS, MOST_ROUTERS}
 use Rattle.network_text.specs.Texts.{Draft, with_name, with_ends, link_between, with_link}
 use Rattle.network_text.specs.Texts.{with_capacity, with_names, router_line, link_line, with_words}
 use Rattle.network_text.specs.Readings.{Adds, IsWithinLimits}
@@ -48,7 +49,7 @@ links-more few many links more are = λ k d below. IsLink-more few many _ more (
 with_names-small : (old new : Draft) (name : List ℕ) → is_name name ≡ true
     → with_names (with_name old.names name) old.links ≡ Ok new → IsSmall old → IsSmall new
 with_names-small old new name is h small =
-    elim (cases_Bool (nat_lt 1024 (length (with_name old.names name)))) [
+    elim (cases_Bool (nat_lt MOST_ROUTERS (length (with_name old.names name)))) [
       | inl many ↦ absurd (let k = rw many at h in cc)
       | inr few ↦
           let made : Draft = record { names = with_name old.names name; links = old.links } in
@@ -69,7 +70,7 @@ length-with_ends names first second =
 
 -- A link within the limits keeps them.
 link-small : (draft : Draft) (first second : List ℕ) (cap : ℕ) → is_name first ≡ true → is_name second ≡ true
-    → cap ≤ 1000000000000 → length (with_ends draft.names first second) ≤ 1024 → length draft.links < 8192
+    → cap ≤ MOST_CAPACITY → length (with_ends draft.names first second) ≤ MOST_ROUTERS → length draft.links < MOST_LINKS
     → IsSmall draft → IsWithinLimits (with_ends draft.names first second)
     (draft.links ++ link_between (with_ends draft.names first second) first second cap ∷ [])
 link-small draft first second cap is_first is_second fits few room small =
@@ -93,11 +94,11 @@ link-small draft first second cap is_first is_second fits few room small =
 with_link-small : (old new : Draft) (first second : List ℕ) (cap : ℕ) → is_name first ≡ true → is_name second ≡ true
     → with_link old first second cap ≡ Ok new → IsSmall old → IsSmall new
 with_link-small old new first second cap is_first is_second h small =
-    elim (cases_Bool (nat_lt 1000000000000 cap)) [
+    elim (cases_Bool (nat_lt MOST_CAPACITY cap)) [
       | inl large ↦ absurd (let k = rw large at h in cc)
-      | inr fits ↦ elim (cases_Bool (nat_lt 1024 (length (with_ends old.names first second)))) [
+      | inr fits ↦ elim (cases_Bool (nat_lt MOST_ROUTERS (length (with_ends old.names first second)))) [
         | inl many ↦ absurd (let k = rw (fits, many) at h in cc)
-        | inr few ↦ elim (cases_Bool (nat_le 8192 (length old.links))) [
+        | inr few ↦ elim (cases_Bool (nat_le MOST_LINKS (length old.links))) [
           | inl full ↦ absurd (let k = rw (fits, few, full) at h in cc)
           | inr room ↦
               let made : Draft = record {

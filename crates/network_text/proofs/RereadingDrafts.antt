@@ -10,6 +10,7 @@ use Rattle.text_forms.proofs.Decimals.{number_in-decimal}
 use Rattle.text_forms.proofs.Written.{IsLineOf, is_long-short, is_passed-word}
 use Rattle.cut_model.specs.Net.{IsLink}
 use Rattle.cut_model.specs.declared.network.Link.{Link}
+use Rattle.cut_model.specs.declared.network.TheConstants.{MOST_CAPACITY, MOST_LINKS, MOST_ROUTERS}
 use Rattle.network_text.specs.Sheets.{SheetView, IsSheet}
 use Rattle.network_text.specs.Texts.{Draft, Progress, after_line, at_start, progress_of}
 use Rattle.network_text.specs.Texts.{with_line, with_link_among, with_words}
@@ -28,21 +29,21 @@ with_line-words draft is other = rw (is_passed-word is other, is_long-short is, 
 
 -- The words of a router whose name is new add the name.
 with_words-router : (names : List (List ℕ)) (name : List ℕ) (rest : List (List ℕ)) (links : List Link)
-    → Differ (names ++ name ∷ rest) → is_name name ≡ true → length (names ++ name ∷ []) ≤ 1024
+    → Differ (names ++ name ∷ rest) → is_name name ≡ true → length (names ++ name ∷ []) ≤ MOST_ROUTERS
     → with_words (draft_of names links) (router_words name) ≡ Ok (draft_of (names ++ name ∷ []) links)
 with_words-router names name rest links differ is few =
-    rw (is, with_name-new names name rest differ, le-ltb 1024 (length (names ++ name ∷ [])) few) refl
+    rw (is, with_name-new names name rest differ, le-ltb MOST_ROUTERS (length (names ++ name ∷ [])) few) refl
 
 -- A link that keeps the limits is added.
-with_link_among-fits : (names : List (List ℕ)) (links : List Link) (link : Link) → link.cap ≤ 1000000000000
-    → length names ≤ 1024 → length links < 8192
+with_link_among-fits : (names : List (List ℕ)) (links : List Link) (link : Link) → link.cap ≤ MOST_CAPACITY
+    → length names ≤ MOST_ROUTERS → length links < MOST_LINKS
     → with_link_among names links link ≡ Ok (draft_of names (links ++ link ∷ []))
 with_link_among-fits names links link cap routers few =
-    rw (le-ltb 1000000000000 link.cap cap, le-ltb 1024 (length names) routers, lt-leb 8192 (length links) few) refl
+    rw (le-ltb MOST_CAPACITY link.cap cap, le-ltb MOST_ROUTERS (length names) routers, lt-leb MOST_LINKS (length links) few) refl
 
 -- The words of a link add the link.
 with_words-link : (names : List (List ℕ)) (links : List Link) (link : Link) → Differ names → AreNames names
-    → IsLink (length names) link → length names ≤ 1024 → length links < 8192
+    → IsLink (length names) link → length names ≤ MOST_ROUTERS → length links < MOST_LINKS
     → with_words (draft_of names links) (link_words names link) ≡ Ok (draft_of names (links ++ link ∷ []))
 with_words-link names links link differ named is routers few =
     let most = is.cap in
@@ -62,13 +63,13 @@ after_line-draft progress old new line before adds = rw (before, adds) refl
 
 -- The lines of routers add their names.
 draft-routers : (progress : Progress) (done names : List (List ℕ)) → progress.draft ≡ Ok (draft_of done [])
-    → Differ (done ++ names) → AreNames names → length (done ++ names) ≤ 1024
+    → Differ (done ++ names) → AreNames names → length (done ++ names) ≤ MOST_ROUTERS
     → (fold after_line progress (map router_front names)).draft ≡ Ok (draft_of (done ++ names) [])
 draft-routers progress done [] before differ named few = rw append-nil before
 draft-routers progress done (name ∷ names) before differ named few =
     let one = done ++ name ∷ [] in
     let all : one ++ names ≡ done ++ name ∷ names = append_assoc done (name ∷ []) names in
-    let size : length one ≤ 1024 =
+    let size : length one ≤ MOST_ROUTERS =
     omega (arith, few, length-append done (name ∷ names), length-append done (name ∷ [])) in
     let is = All-head (λ n. IsTrue (is_name n)) name names named in
     let others = All-tail (λ n. IsTrue (is_name n)) name names named in
@@ -82,14 +83,14 @@ draft-routers progress done (name ∷ names) before differ named few =
 
 -- The lines of links among the names of routers add the links.
 draft-links : (progress : Progress) (names : List (List ℕ)) (done links : List Link)
-    → progress.draft ≡ Ok (draft_of names done) → Differ names → AreNames names → length names ≤ 1024
-    → All (IsLink (length names)) links → length (done ++ links) ≤ 8192
+    → progress.draft ≡ Ok (draft_of names done) → Differ names → AreNames names → length names ≤ MOST_ROUTERS
+    → All (IsLink (length names)) links → length (done ++ links) ≤ MOST_LINKS
     → (fold after_line progress (map (link_front names) links)).draft ≡ Ok (draft_of names (done ++ links))
 draft-links progress names done [] before differ named routers within few = rw append-nil before
 draft-links progress names done (link ∷ links) before differ named routers within few =
     let one = done ++ link ∷ [] in
     let all : one ++ links ≡ done ++ link ∷ links = append_assoc done (link ∷ []) links in
-    let room : length done < 8192 = omega (arith, few, length-append done (link ∷ links)) in
+    let room : length done < MOST_LINKS = omega (arith, few, length-append done (link ∷ links)) in
     let is = All-head (IsLink (length names)) link links within in
     let others = All-tail (IsLink (length names)) link links within in
     let front = link_front names link in
@@ -108,7 +109,7 @@ draft-sheet sheet is =
     let links = sheet.net.links in
     let routers = map router_front names in
     let numbered = is.numbered in
-    let few : length names ≤ 1024 = let most = is.limits.few_routers in omega arith in
+    let few : length names ≤ MOST_ROUTERS = let most = is.limits.few_routers in omega arith in
     let within : All (IsLink (length names)) links = rw numbered is.limits.within in
     let named = draft-routers at_start [] names refl is.distinct is.named few in
     let then = fold after_line at_start routers in

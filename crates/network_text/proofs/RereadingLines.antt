@@ -14,6 +14,7 @@ use Rattle.text_forms.proofs.Written.{IsLineOf, IsLineOf-spaced, IsWord-name, Is
 use Rattle.text_forms.proofs.Written.{fronts_of-written, is_end-more}
 use Rattle.cut_model.specs.Net.{IsLink}
 use Rattle.cut_model.specs.declared.network.Link.{Link}
+use Rattle.text_forms.specs.declared.lines.TheConstants.{MOST_LINE_BYTES}
 use Rattle.network_text.specs.Sheets.{SheetView, IsSheet}
 use Rattle.network_text.specs.Writing.{name_at, link_text, sheet_text, before_end, has_end}
 use Rattle.network_text.proofs.RereadingNames.{AreNames}
@@ -42,7 +43,7 @@ link_text-front names link = simp append_assoc
 pub router_front-words : (name : List ℕ) → is_name name ≡ true → IsLineOf (router_words name) (router_front name)
 router_front-words name is =
     let small = length-name name is in
-    let short : length (codes "router" ++ 32 ∷ name) ≤ 512 = simp length-append (omega arith) in
+    let short : length (codes "router" ++ 32 ∷ name) ≤ MOST_LINE_BYTES = simp length-append (omega arith) in
     IsLineOf-spaced (router_words name) (IsWord-from_test (codes "router") refl, (IsWord-name name is, tt)) short
 
 -- Each router of a sheet has a name.
@@ -52,7 +53,7 @@ name_at-is_name names router named below = named router [] below
 
 -- A link's line is short: two names, and a number of at most 13 digits.
 length-link_front : (names : List (List ℕ)) (link : Link) → AreNames names → IsLink (length names) link
-    → length (link_front names link) ≤ 512
+    → length (link_front names link) ≤ MOST_LINE_BYTES
 length-link_front names link named is =
     let a = name_at names link.a in
     let b = name_at names link.b in
@@ -61,7 +62,7 @@ length-link_front names link named is =
     let a_short = length-name a (name_at-is_name names link.a named is.a) in
     let b_short = length-name b (name_at-is_name names link.b named is.b) in
     let cap_short : length cap ≤ 13 = length-decimal-le 13 link.cap (omega arith) (omega arith) (omega arith) in
-    let all : length (codes "link" ++ 32 ∷ (a ++ 32 ∷ (b ++ 32 ∷ cap))) ≤ 512 = simp length-append (omega arith) in all
+    let all : length (codes "link" ++ 32 ∷ (a ++ 32 ∷ (b ++ 32 ∷ cap))) ≤ MOST_LINE_BYTES = simp length-append (omega arith) in all
 
 -- The line of a link has its words.
 pub link_front-words : (names : List (List ℕ)) (link : Link) → AreNames names → IsLink (length names) link

@@ -9,10 +9,11 @@ use Rattle.std.proofs.lemmas.Bool.Decides.{same_from_decides}
 use Rattle.std.proofs.lemmas.Slice.Eq.{bytes_eq-Decides}
 use Rattle.std.specs.Str.{bytes_eq}
 use Rattle.std.proofs.lemmas.List.{take_at}
+use Rattle.text_forms.specs.declared.names.TheConstants.{MOST_NAME_BYTES}
 use Rattle.network_text.specs.Padding.{padded}
 use Rattle.network_text.specs.contracts.name.NamePartialEq.TheImpl.{eq-value}
 
--- Names that are equal have the same 32 bytes and the same length.
+-- Names that are equal have the same bytes, zeros and all, and the same length.
 same_parts : (x y : List ℕ) → (eq-value).it x y ≡ true → (padded x ≡ padded y) × (length x ≡ length y)
 same_parts x y h = search rules
 
@@ -20,8 +21,8 @@ same_parts x y h = search rules
 same-from_eq : (x y : List ℕ) → (eq-value).it x y ≡ true → x ≡ y
 same-from_eq x y h =
     let parts = same_parts x y h in
-    let front = take_at x (replicate (32 - length x) 0) (length x) refl in
-    let other = take_at y (replicate (32 - length y) 0) (length y) refl in cc
+    let front = take_at x (replicate (MOST_NAME_BYTES - length x) 0) (length x) refl in
+    let other = take_at y (replicate (MOST_NAME_BYTES - length y) 0) (length y) refl in cc
 
 -- A name is equal to itself.
 eq-same : (x : List ℕ) → (eq-value).it x x ≡ true

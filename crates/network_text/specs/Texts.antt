@@ -9,6 +9,7 @@ use Rattle.text_forms.specs.Names.{is_name}
 use Rattle.text_forms.specs.Numbers.{number_in}
 use Rattle.text_forms.specs.Words.{is_passed, line_words}
 use Rattle.cut_model.specs.declared.network.Link.{Link}
+use Rattle.cut_model.specs.declared.network.TheConstants.{MOST_CAPACITY, MOST_LINKS, MOST_ROUTERS}
 use Rattle.network_text.specs.Sheets.{SheetView}
 use Rattle.network_text.specs.declared.fault.TextFault.{TextFault}
 use Rattle.network_text.specs.declared.fault.TextKind.{TextKind}
@@ -20,6 +21,10 @@ use Rattle.network_text.specs.declared.fault.TextKind.TheVariants.{TooManyLinks,
 pub record Draft : Type 0 where
   pub names : List (List ℕ)
   pub links : List Link
+
+-- Nothing was named yet.
+abbrev pub no_draft : Draft
+no_draft = record { names = []; links = [] }
 
 -- A name that is new goes to the end.
 abbrev pub with_name : List (List ℕ) → List ℕ → List (List ℕ)
@@ -40,9 +45,9 @@ link_between names first second cap = record { a = place_of names first; b = pla
 -- The draft with these names and one link more, where the limits allow it.
 abbrev pub with_link_among : List (List ℕ) → List Link → Link → Result Draft TextKind
 with_link_among names links link =
-    if nat_lt 1000000000000 link.cap then Err CapTooLarge
-    else if nat_lt 1024 (length names) then Err TooManyRouters
-    else if nat_le 8192 (length links) then Err TooManyLinks
+    if nat_lt MOST_CAPACITY link.cap then Err CapTooLarge
+    else if nat_lt MOST_ROUTERS (length names) then Err TooManyRouters
+    else if nat_le MOST_LINKS (length links) then Err TooManyLinks
     else Ok record { names = names; links = links ++ link ∷ [] }
 
 -- A link joins the routers of two names.
@@ -59,7 +64,7 @@ with_capacity draft first second (Some cap) = with_link draft first second cap
 -- The draft with these names, where they aren't too many.
 abbrev pub with_names : List (List ℕ) → List Link → Result Draft TextKind
 with_names names links =
-    if nat_lt 1024 (length names) then Err TooManyRouters else Ok record { names = names; links = links }
+    if nat_lt MOST_ROUTERS (length names) then Err TooManyRouters else Ok record { names = names; links = links }
 
 -- The words behind `router` are one name.
 abbrev pub router_line : Draft → List (List ℕ) → Result Draft TextKind
@@ -113,7 +118,7 @@ after_line progress line = record {
 
 -- Where a text begins.
 abbrev pub at_start : Progress
-at_start = record { lines = 0; draft = Ok record { names = []; links = [] } }
+at_start = record { lines = 0; draft = Ok no_draft }
 
 -- Where a text stands after these lines.
 abbrev pub progress_of : List (List ℕ) → Progress

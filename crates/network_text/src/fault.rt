@@ -20,19 +20,19 @@ pub enum TextKind {
     /// A line has more or fewer words than its first word asks for.
     #[error("wrong number of words")]
     WrongCount,
-    /// A line has more than 512 bytes.
+    /// A line has more than [`MOST_LINE_BYTES`](text_forms::MOST_LINE_BYTES) bytes.
     #[error("line too long")]
     LineTooLong,
     /// The word in the number's place is no number.
     #[error("bad number")]
     BadNumber,
-    /// The capacity is above 10^12.
+    /// The capacity is above [`MOST_CAPACITY`](cut_model::MOST_CAPACITY).
     #[error("capacity too large")]
     CapTooLarge,
-    /// A line names a router that would be the 1,025th.
+    /// A line names a router that would be one more than [`MOST_ROUTERS`](cut_model::MOST_ROUTERS).
     #[error("too many routers")]
     TooManyRouters,
-    /// The link would be the 8,193rd.
+    /// The link would be one more than [`MOST_LINKS`](cut_model::MOST_LINKS).
     #[error("too many links")]
     TooManyLinks,
     /// The text ended and no router was named.
@@ -47,7 +47,7 @@ pub enum TextKind {
 }
 
 impl TextKind {
-    /// The number by which clients are told of it.
+    /// The number by which clients are told of it: 11 for `BadName`.
     pub fn number(self) -> u32
         ensures { result ≡ kind_number self }
     {

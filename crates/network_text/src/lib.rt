@@ -5,8 +5,8 @@
 //! routers, numbered in order of appearance. `write_sheet` writes a text that has the same sheet.
 #![tactic(auto)]
 
+mod drafting;
 mod fault;
-mod gathered;
 mod name;
 mod reader;
 mod sheet;

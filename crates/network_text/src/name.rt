@@ -2,17 +2,16 @@
 
 ghost use Rattle.std.specs.Prelude.{◌≡◌, ◌≤◌, List, length, IfSome, IfNone, IsTrue, IsFalse};
 ghost use Rattle.text_forms.specs.Names.{is_name as name};
+ghost use Rattle.text_forms.specs.declared.names.TheConstants.{MOST_NAME_BYTES};
 
 use std::marker::Model;
-use text_forms::is_name;
+use text_forms::{MOST_NAME_BYTES, is_name};
 
-/// The most bytes that a name may have.
-const LONGEST_NAME: usize = 32;
-
-/// A name of 1 to 32 bytes, each an ASCII letter, a digit, `.`, `_` or `-`. Contracts see its bytes.
+/// A name of 1 to [`MOST_NAME_BYTES`] bytes, each an ASCII letter, a digit, `.`, `_` or `-`. Contracts see
+/// its bytes.
 #[derive(Clone, Copy, PartialEq, Eq, Hash)]
 pub struct Name {
-    bytes: [u8; LONGEST_NAME],
+    bytes: [u8; MOST_NAME_BYTES],
     len: u8,
 }
 
@@ -35,7 +34,7 @@ impl Model for Name {
 }
 
 impl Name {
-    /// The name of these bytes; none exactly where they are no name.
+    /// The name of these bytes; none exactly where they are no name, as `a/b`.
     pub fn from_bytes(bytes: &[u8]) -> Option<Name>
         ensures none { IfNone result (IsFalse (name bytes.now)) }
         ensures some { IfSome result (λ made. IsTrue (name bytes.now) × (made ≡ bytes.now)) }
@@ -47,11 +46,11 @@ impl Name {
         }
     }
 
-    /// The bytes of the name, at most 32.
+    /// The bytes of the name, as `edge-1`.
     #[inline]
     pub fn as_bytes(&self) -> &[u8]
         ensures value { result.now ≡ self.now }
-        ensures short { length result.now ≤ 32 }
+        ensures short { length result.now ≤ MOST_NAME_BYTES }
         ensures named { IsTrue (name result.now) }
     {
         &self.bytes[..self.len as usize]
@@ -62,7 +61,7 @@ impl Name {
         requires { IsTrue (name bytes.now) }
         ensures { result ≡ bytes.now }
     {
-        let mut padded = [0; LONGEST_NAME];
+        let mut padded = [0; MOST_NAME_BYTES];
         padded[..bytes.len()].copy_from_slice(bytes);
         Name {
             bytes: padded,

@@ -1,12 +1,14 @@
 //! Reading a network text line by line.
 
-ghost use Rattle.std.specs.Prelude.{◌≡◌, ◌<◌, ◌^◌, IfOk, IsTrue, IsFalse, false, true};
+ghost use Rattle.std.specs.Prelude.{◌≡◌, ◌<◌, ◌≤◌, ◌^◌, IfOk, IsTrue, IsFalse, false, length, true};
+ghost use Rattle.cut_model.specs.declared.network.TheConstants.{MOST_LINKS, MOST_ROUTERS};
+ghost use Rattle.std.specs.Result.{IsErr, IsOk};
 ghost use Rattle.text_forms.specs.Words.{is_end as end_line};
-ghost use Rattle.network_text.specs.Readings.{Closes, TakesLine};
-ghost use Rattle.network_text.specs.Texts.{at_start, verdict_at};
+ghost use Rattle.network_text.specs.Readings.{Closes, TakesLine, kept_at};
+ghost use Rattle.network_text.specs.Texts.{at_start, no_draft, verdict_at};
 
+use crate::drafting::Drafting;
 use crate::fault::{TextFault, TextKind};
-use crate::gathered::Gathered;
 use crate::sheet::Sheet;
 use cut_model::NoMemory;
 use std::alloc::Global;
@@ -22,12 +24,12 @@ pub enum Fed {
     Ended,
 }
 
-/// A reader of one network text. It keeps no lines, but what they name: at most 1,026 names and
-/// 8,192 links. Contracts see a `Reading`.
+/// A reader of one network text. It keeps no lines, but what they name: never more names and links than a
+/// network may have, and none of them behind the first thing that goes wrong. Contracts see a `Reading`.
 #[derive(Drop)]
 pub struct Reader {
     alloc: Global,
-    gathered: Gathered,
+    drafting: Drafting,
     lines: u32,
     noted: Option<TextFault>,
     ended: bool,
@@ -39,35 +41,39 @@ impl Model for Reader {
     ghost Value = { Reading };
 
     ghost view = { λ reader. record {
-      progress = record { lines = reader.lines; draft = draft_at reader.noted reader.gathered };
+      progress = record { lines = reader.lines; draft = draft_at reader.noted reader.drafting };
+      kept = reader.drafting;
       ended = reader.ended;
     } };
 
-    ghost invariant = { λ reader. KeepsBounds reader.lines reader.noted reader.gathered };
+    ghost invariant = { λ reader. KeepsBounds reader.lines reader.noted reader.drafting };
 }
 
 impl Reader {
-    /// A reader before the first line.
+    /// A reader before the first line, which keeps no name and no link.
     ///
     /// # Errors
     /// [`NoMemory`] where memory was wanted. A reader that begins takes none as it is built, and its
     /// caller need not rely on that.
     pub fn begin(alloc: Global) -> Result<Reader, NoMemory>
-        ensures { IfOk result (λ reader. reader ≡ record { progress = at_start; ended = false }) }
+        ensures { IfOk result (λ reader. reader ≡ record { progress = at_start; kept = no_draft; ended = false }) }
     {
         Ok(Reader {
             alloc,
-            gathered: Gathered::new(alloc),
+            drafting: Drafting::new(alloc),
             lines: 0,
             noted: None,
             ended: false,
         })
     }
 
-    /// Takes the next line, without its line feed; of a line of more than 512 bytes the first 513
-    /// suffice. The first thing that goes wrong, a faulty line or want of memory, is noted and stays;
-    /// later lines are only looked at for END. One look-up for each name, and the memory of what the
-    /// line names. At most 2^31 lines may come before END.
+    /// Takes the next line, without its line feed; of a line that is too long one byte more than a line may
+    /// have suffices. The first thing that goes wrong, a faulty line or want of memory, is noted and stays:
+    /// what was kept is let go, and later lines are only looked at for END. `link a b 7` gives `More`, and
+    /// then two names and a link are kept; `END` gives `Ended`.
+    ///
+    /// One look-up for each name, two where there are as many as a network may have, and the memory of what
+    /// the line names. At most 2^31 lines may come before END.
     pub fn line(&mut self, line: &[u8]) -> Fed
         requires open { IsFalse self.old.ended }
         requires few { self.old.progress.lines < 2 ^ 31 }
@@ -75,26 +81,31 @@ impl Reader {
             → IsTrue (end_line line.now) × (self.new ≡ record self.old { ended = true }) }
         ensures more { result ≡ Fed.More → IsFalse (end_line line.now) × IsFalse self.new.ended }
         ensures taken { result ≡ Fed.More → TakesLine self.old.progress line.now self.new.progress }
+        ensures kept { IsOk self.old.progress.draft → self.new.kept ≡ kept_at self.new.progress.draft }
+        ensures nothing_more { IsErr self.old.progress.draft → self.new.kept ≡ self.old.kept }
+        ensures few_names { length self.new.kept.names ≤ MOST_ROUTERS }
+        ensures few_links { length self.new.kept.links ≤ MOST_LINKS }
     {
         if is_end(line) {
             self.ended = true;
             return Fed::Ended;
         }
         self.lines += 1;
-        if self.noted.is_none() {
-            self.noted = match self.gathered.add_line(line) {
-                Ok(()) => None,
-                Err(kind) => Some(TextFault {
-                    kind,
-                    line: self.lines,
-                }),
-            };
+        if self.noted.is_some() {
+            return Fed::More;
+        }
+        if let Err(kind) = self.drafting.add_line(line) {
+            self.drafting = Drafting::new(self.alloc);
+            self.noted = Some(TextFault {
+                kind,
+                line: self.lines,
+            });
         }
         Fed::More
     }
 
     /// The sheet of the lines: the routers in the order in which their names first appeared, and the
-    /// links in the order of their lines.
+    /// links in the order of their lines. Behind `link b a 7` and `END` router 0 is `b`.
     ///
     /// # Errors
     /// The first thing that went wrong. Where nothing did, `EndedEarly` where no END came, and
@@ -104,7 +115,7 @@ impl Reader {
     {
         let Reader {
             alloc,
-            gathered,
+            drafting,
             lines,
             noted,
             ended,
@@ -118,6 +129,6 @@ impl Reader {
                 line: lines + 1,
             });
         }
-        gathered.into_sheet(alloc, lines + 1)
+        drafting.into_sheet(alloc, lines + 1)
     }
 }

@@ -13,8 +13,9 @@ use itoa::Buffer;
 use wires::{Failed, Sink, put_pieces};
 
 /// Writes the sheet as a network text that has this sheet again: a `router` line for each router in
-/// number order, a `link` line for each link in order, and END. It takes no memory and looks at
-/// each router and each link once.
+/// number order, a `link` line for each link in order, and END. Of the sheet of `link b a 007` the lines
+/// are `router b`, `router a`, `link b a 7` and `END`. It takes no memory and looks at each router and each
+/// link once.
 ///
 /// # Errors
 /// [`Failed`] where a put failed. A front of the text was written then.

@@ -1,15 +1,16 @@
 //! The names and links of a text so far.
 
-ghost use Rattle.std.specs.Prelude.{◌≡◌, ◌⊎◌, ◌<◌, [], true, length, IfErr, IfOk, OnOk};
+ghost use Rattle.std.specs.Prelude.{◌≡◌, ◌⊎◌, ◌<◌, ◌≤◌, true, length, nat_lt, IfErr, IfOk, OnOk};
+ghost use Rattle.cut_model.specs.declared.network.TheConstants.{MOST_ROUTERS};
 ghost use Rattle.text_forms.specs.Words.{words_of};
-ghost use Rattle.network_text.specs.Readings.{Adds, Closes, IsWithinLimits};
-ghost use Rattle.network_text.specs.Texts.{link_line, place_of, router_line, whole_verdict, with_line};
+ghost use Rattle.network_text.specs.Readings.{Adds, Closes, IsBounded, IsRefusal, IsWithinLimits};
+ghost use Rattle.network_text.specs.Texts.{link_line, no_draft, place_of, router_line, whole_verdict, with_line};
 ghost use Rattle.network_text.specs.Texts.{with_link, with_name, with_names, with_words};
 
 use crate::fault::{TextFault, TextKind};
 use crate::name::Name;
 use crate::sheet::Sheet;
-use cut_model::{Link, Network};
+use cut_model::{Link, MOST_CAPACITY, MOST_LINKS, MOST_ROUTERS, Network};
 use indexmap::IndexSet;
 use std::alloc::Global;
 use std::marker::Model;
@@ -18,65 +19,79 @@ use text_forms::{
     is_long, is_passed, one_word, parse_number, split_word, three_words, without_return,
 };
 
-/// The greatest number of routers in a network.
-const MOST_ROUTERS: usize = 1024;
+/// A name that isn't among the names, which are as many as a network may have.
+fn is_one_too_many(names: &IndexSet<Name>, name: Name) -> bool
+    requires few { length names.now.keys ≤ MOST_ROUTERS }
+    ensures { result ≡ nat_lt MOST_ROUTERS (length (with_name names.now.keys name)) }
+{
+    names.len() == MOST_ROUTERS as usize && !names.contains(&name)
+}
 
-/// The greatest number of links in a network.
-const MOST_LINKS: usize = 8192;
-
-/// The greatest capacity of a link.
-const MOST_CAPACITY: u64 = 1_000_000_000_000;
-
-/// The number of a router among the names, which a new name joins at their end.
+/// The number of a router among the names, which a new name joins at their end. One that is one too many
+/// joins them at no moment.
 fn number_in(names: &mut IndexSet<Name>, name: Name) -> Result<usize, TextKind>
+    requires few { length names.old.keys ≤ MOST_ROUTERS }
     ensures named { OnOk result (names.new.keys ≡ with_name names.old.keys name) }
     ensures number { IfOk result (λ number. number ≡ place_of names.new.keys name) }
     ensures below { IfOk result (λ number. number < length names.new.keys) }
-    ensures memory { IfErr result (λ kind. kind ≡ TextKind.Memory) }
+    ensures few { length names.new.keys ≤ MOST_ROUTERS }
+    ensures refused { IfErr result (λ kind. IsRefusal (with_name names.old.keys name) kind) }
 {
+    if is_one_too_many(names, name) {
+        return Err(TextKind::TooManyRouters);
+    }
     let (number, _) = names.insert_full(name)?;
     Ok(number)
 }
 
-/// The names and links of a text so far, in order of appearance. Contracts see a `Draft`.
+/// The names and links of a text so far, in order of appearance, and at no moment more of them than a
+/// network may have. Contracts see a `Draft`.
 #[derive(Drop)]
-pub(crate) struct Gathered {
+pub(crate) struct Drafting {
     names: IndexSet<Name>,
     links: Vec<Link>,
 }
 
-impl Model for Gathered {
+impl Model for Drafting {
     ghost use Rattle.network_text.specs.Texts.{Draft};
+    ghost use Rattle.network_text.specs.Readings.{IsBounded};
 
     ghost Value = { Draft };
 
-    ghost view = { λ gathered. record { names = gathered.names.keys; links = gathered.links.items } };
+    ghost view = { λ drafting. record { names = drafting.names.keys; links = drafting.links.items } };
+
+    ghost invariant = { λ drafting. IsBounded drafting.names.keys drafting.links.items };
 }
 
-impl Gathered {
+impl Drafting {
     /// Nothing yet. It takes no memory.
-    pub(crate) fn new(alloc: Global) -> Gathered
-        ensures { result ≡ record { names = []; links = [] } }
+    pub(crate) fn new(alloc: Global) -> Drafting
+        ensures { result ≡ no_draft }
     {
-        Gathered {
+        Drafting {
             names: IndexSet::new(alloc),
             links: Vec::new(alloc),
         }
     }
 
-    /// Takes in a line. After an error what was gathered means nothing.
+    /// Takes in a line. After an error what was drafted means nothing.
     pub(crate) fn add_line(&mut self, line: &[u8]) -> Result<(), TextKind>
         ensures adds { Adds (with_line self.old line.now) result self.new }
         ensures limits { OnOk result (IsWithinLimits self.old.names self.old.links
             → IsWithinLimits self.new.names self.new.links) }
+        ensures bounded { IsBounded self.new.names self.new.links }
     {
+        // What the type keeps is known where one of its fields is looked at.
+        let _names = &self.names;
         if is_passed(line) {
             return Ok(());
         }
         if is_long(line) {
             return Err(TextKind::LineTooLong);
         }
-        self.add_words(without_return(line))
+        let added = self.add_words(without_return(line));
+        let _names = &self.names;
+        added
     }
 
     /// Takes in the words of a line that isn't passed over.
@@ -111,9 +126,6 @@ impl Gathered {
         ensures adds { Adds (with_names (with_name self.old.names name) self.old.links) result self.new }
     {
         number_in(&mut self.names, name)?;
-        if self.names.len() > MOST_ROUTERS {
-            return Err(TextKind::TooManyRouters);
-        }
         Ok(())
     }
 
@@ -132,14 +144,11 @@ impl Gathered {
     fn add_link(&mut self, first: Name, second: Name, cap: u64) -> Result<(), TextKind>
         ensures adds { Adds (with_link self.old first second cap) result self.new }
     {
-        let a = number_in(&mut self.names, first)?;
-        let b = number_in(&mut self.names, second)?;
         if cap > MOST_CAPACITY {
             return Err(TextKind::CapTooLarge);
         }
-        if self.names.len() > MOST_ROUTERS {
-            return Err(TextKind::TooManyRouters);
-        }
+        let a = number_in(&mut self.names, first)?;
+        let b = number_in(&mut self.names, second)?;
         if self.links.len() >= MOST_LINKS {
             return Err(TextKind::TooManyLinks);
         }
@@ -151,12 +160,12 @@ impl Gathered {
         Ok(())
     }
 
-    /// The sheet of what was gathered, where its END is the line of this number.
+    /// The sheet of what was drafted, where its END is the line of this number.
     pub(crate) fn into_sheet(self, alloc: Global, end: u32) -> Result<Sheet, TextFault>
         requires { IsWithinLimits self.names self.links }
         ensures { Closes (whole_verdict end true self) result }
     {
-        let Gathered { names, links } = self;
+        let Drafting { names, links } = self;
         if names.is_empty() {
             return Err(TextFault {
                 kind: TextKind::NoTerminal,

@@ -1,5 +1,5 @@
-use Rattle.network_text.proofs.Adding.{inserted, placed}
-use Rattle.network_text.proofs.gathered.number_in.Goals as goal
+use Rattle.network_text.proofs.Adding.{inserted, inserted-few, placed}
+use Rattle.network_text.proofs.drafting.number_in.Goals as goal
 
 pub returns-clause-named : goal.returns-clause-named
 returns-clause-named c =
@@ -9,3 +9,8 @@ pub returns-clause-number : goal.returns-clause-number
 returns-clause-number c =
     placed c.args.names.now.keys c.insert_full.new.self.keys c.args.name c.in_ok-number.number
     c.in_ok-number.ensures.keys c.in_ok-number.ensures.index
+
+pub returns-clause-few : goal.returns-clause-few
+returns-clause-few c =
+    inserted-few c.args.names.now.keys c.insert_full.new.self.keys c.args.name c.is_one_too_many.result
+    c.in_ok-number.ensures.keys c.is_one_too_many.ensures c.if-is_one_too_many.false

@@ -1,6 +1,6 @@
 use Rattle.std.proofs.Common.{sym, ◌∙◌}
 use Rattle.network_text.proofs.Adding.{link_line-with_link}
-use Rattle.network_text.proofs.gathered.Gathered.add_link_line.Goals as goal
+use Rattle.network_text.proofs.drafting.Drafting.add_link_line.Goals as goal
 
 pub returns : goal.returns
 returns c =

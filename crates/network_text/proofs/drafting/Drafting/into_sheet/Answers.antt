@@ -2,7 +2,7 @@ use Rattle.std.proofs.Common.{sym, subst, ◌∙◌}
 use Rattle.network_text.specs.Texts.{Draft}
 use Rattle.network_text.specs.Readings.{IsWithinLimits}
 use Rattle.network_text.proofs.Made.{some-element, faultless, IsSheet-whole}
-use Rattle.network_text.proofs.gathered.Gathered.into_sheet.Goals as goal
+use Rattle.network_text.proofs.drafting.Drafting.into_sheet.Goals as goal
 
 pub unreachable-requires : goal.unreachable-requires
 unreachable-requires c =
