@@ -18,6 +18,7 @@ pub mod KeptShape
 pub mod KeptCuts
 pub mod WaysUp
 pub mod HalfBuilt
+pub mod FewMoves
 pub mod Climbing
 pub mod Trees
 pub mod Paths

@@ -34,7 +34,7 @@ moves_from-push root T (first ∷ history) entry r = elim (cases_Bool (r == firs
 ]
 
 -- and so from the start
-moves-push : (root : ℕ) (history : List Entry) (entry : Entry) (r : ℕ)
+pub moves-push : (root : ℕ) (history : List Entry) (entry : Entry) (r : ℕ)
     → moves root (history ++ entry ∷ []) r
     ≡ moves root history r + cond (entered (history ++ entry ∷ []) r) 0
     (cond ((tables root (history ++ entry ∷ [])).up r == (tables root history).up r) 0 1)

@@ -2,10 +2,11 @@
 use Rattle.std.specs.Prelude.{ℕ, ◌≢◌, ◌≤◌, List}
 use Rattle.cut_model.specs.Net.{Net, IsInLimits}
 use Rattle.cut_model.specs.Cuts.{IsLeastCut}
-use Rattle.cut_model.specs.Terminals.{IsTerminal, terminal_count, root_of}
+use Rattle.cut_model.specs.Terminals.{is_terminal, IsTerminal, terminal_count, root_of}
 use Rattle.tree_state.specs.declared.entry.Entry.{Entry}
 use Rattle.tree_state.specs.Tables.{Table, below}
 use Rattle.tree_state.specs.History.{tables, entered, IsLegal, IsComplete}
+use Rattle.tree_state.specs.Moves.{moves, sum_over, most_moves}
 use Rattle.tree_state.specs.Trees.{IsHalfBuiltTree, IsCutTree}
 use Rattle.tree_state.specs.Paths.{IsLeastEdge, side_for, IsWeakest, IsGlobalCut}
 
@@ -22,6 +23,13 @@ abbrev pub CompleteHistoryIsCutTree : Type 0
 CompleteHistoryIsCutTree =
     (net : Net) → IsInLimits net → (history : List Entry) → IsComplete net history →
     IsCutTree net (root_of net) (tables (root_of net) history).up (tables (root_of net) history).width
+
+-- The moves of the terminals of a legal history, each counted until it is entered, sum to no more than the most. Where
+-- the root is the only terminal both are 0.
+abbrev pub LegalHistoryMakesFewMoves : Type 0
+LegalHistoryMakesFewMoves =
+    (net : Net) → IsInLimits net → (history : List Entry) → IsLegal net history →
+    sum_over (is_terminal net) (moves (root_of net) history) net.routers ≤ most_moves (terminal_count net)
 
 -- In a cut tree, two terminals that differ have a least edge on their path.
 abbrev pub PathHasLeastEdge : Type 0

@@ -1,5 +1,5 @@
 -- How often what is above a router changes.
-use Rattle.std.specs.Prelude.{ℕ, zero, suc, ◌+◌, ◌==◌, List, [], ◌∷◌, if◌then◌else◌}
+use Rattle.std.specs.Prelude.{ℕ, zero, suc, ◌+◌, ◌-◌, ◌*◌, ◌/◌, ◌==◌, List, [], ◌∷◌, if◌then◌else◌}
 use Rattle.cut_model.specs.Cuts.{RouterSet}
 use Rattle.tree_state.specs.declared.entry.Entry.{Entry}
 use Rattle.tree_state.specs.Tables.{Tables, start}
@@ -22,3 +22,7 @@ moves root history router = moves_from root (start root) history router
 unfoldable pub sum_over : RouterSet → (ℕ → ℕ) → ℕ → ℕ
 sum_over X f zero = 0
 sum_over X f (suc n) = (if X n then f n else 0) + sum_over X f n
+
+-- The most moves that so many terminals make together: half of the product of the two numbers below theirs.
+abbrev pub most_moves : ℕ → ℕ
+most_moves terminals = (terminals - 1) * (terminals - 2) / 2

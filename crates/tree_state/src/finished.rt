@@ -2,10 +2,10 @@
 ghost use Rattle.std.specs.Prelude.{◌≡◌, ◌+◌, ◌<◌, ◌≤◌, Some, length, slice_get, slice_index};
 ghost use Rattle.std.specs.Arc.{arc_value};
 ghost use Rattle.cut_model.specs.declared.network.TheConstants.{MOST_VALUE};
-ghost use Rattle.cut_model.specs.Terminals.{IsTerminal, terminal_count, root_of};
+ghost use Rattle.cut_model.specs.Terminals.{is_terminal, IsTerminal, terminal_count, root_of};
 ghost use Rattle.tree_state.specs.Views.{tree_in, up_of, width_of, HoldsCutTree};
 ghost use Rattle.tree_state.specs.History.{IsComplete};
-ghost use Rattle.tree_state.specs.Moves.{moves};
+ghost use Rattle.tree_state.specs.Moves.{moves, sum_over, most_moves};
 
 use crate::entry::Entry;
 use crate::growing::Growing;
@@ -99,11 +99,13 @@ impl Finished {
     }
 
     /// How many cuts of `s` weren't taken while the tree grew, since the router above it had moved. It moved
-    /// at least as often.
+    /// at least as often; so the retakes of all T terminals sum to at most (T - 1)(T - 2) / 2.
     pub fn retakes(&self, s: u32) -> u32
         requires { s < self.now.tree.net.routers }
         ensures value { result ≡ slice_index self.now.retakes s }
         ensures few { result ≤ moves (root_of self.now.tree.net) self.now.tree.history s }
+        ensures sum { sum_over (is_terminal self.now.tree.net) (slice_index self.now.retakes)
+            self.now.tree.net.routers ≤ most_moves (terminal_count self.now.tree.net) }
     {
         self.grown.retakes(s)
     }

@@ -4,9 +4,9 @@ ghost use Rattle.std.specs.Prelude.{length, replicate, slice_get, slice_index, s
 ghost use Rattle.std.specs.Arc.{arc_value};
 ghost use Rattle.cut_model.specs.declared.network.TheConstants.{MOST_ROUTERS, MOST_VALUE};
 ghost use Rattle.cut_model.specs.Net.{IsInLimits};
-ghost use Rattle.cut_model.specs.Terminals.{IsTerminal, root_of};
+ghost use Rattle.cut_model.specs.Terminals.{is_terminal, IsTerminal, terminal_count, root_of};
 ghost use Rattle.tree_state.specs.History.{tables, entered, entry_of, IsLegal};
-ghost use Rattle.tree_state.specs.Moves.{moves};
+ghost use Rattle.tree_state.specs.Moves.{moves, sum_over, most_moves};
 ghost use Rattle.tree_state.specs.Growing.{bare_growing};
 ghost use Rattle.tree_state.specs.Views.{tree_in, up_of, width_of};
 
@@ -188,6 +188,8 @@ impl Growing {
         requires { s < self.now.net.routers }
         ensures value { result ≡ slice_index self.now.retakes s }
         ensures few { result ≤ moves (root_of self.now.net) self.now.history s }
+        ensures sum { sum_over (is_terminal self.now.net) (slice_index self.now.retakes) self.now.net.routers
+            ≤ most_moves (terminal_count self.now.net) }
     {
         self.retakes[s as usize]
     }

@@ -1,5 +1,6 @@
 //! Laws of histories and of cut trees: each function's contract is one, and its body is empty.
 ghost use Rattle.tree_state.specs.Laws.{LegalHistoryBuildsHalf, CompleteHistoryIsCutTree};
+ghost use Rattle.tree_state.specs.Laws.{LegalHistoryMakesFewMoves};
 ghost use Rattle.tree_state.specs.Laws.{PathHasLeastEdge, LeastEdgeIsLeastCut};
 ghost use Rattle.tree_state.specs.Laws.{TreeHasWeakestEdge, WeakestEdgeIsGlobalCut};
 
@@ -15,6 +16,13 @@ pub fn legal_history_builds_half_a_tree()
 /// (Gusfield, 1990.)
 pub fn complete_history_is_a_cut_tree()
     ensures { CompleteHistoryIsCutTree }
+{}
+
+/// In a legal history of T terminals, T at least 2, what is above a terminal changes at most
+/// (T - 1)(T - 2) / 2 times in all before the terminal is entered: each entry moves at most those that
+/// aren't entered by then.
+pub fn legal_history_makes_few_moves()
+    ensures { LegalHistoryMakesFewMoves }
 {}
 
 /// In a cut tree, two terminals that differ have a least edge on their path, and its side that holds
