@@ -7,6 +7,6 @@ pub mod Lengths
 pub mod NameTexts
 pub mod OneReport
 pub mod PathLengths
+pub mod Promises
 pub mod RequestKinds
 pub mod SameNames
-pub mod SmallTrees

@@ -16,7 +16,7 @@ use Rattle.query_lang.specs.declared.request.Request.TheVariants.{Cut, Path, Tre
 use Rattle.path_minimum.proofs.OnePath.{path-only}
 
 -- Two terminals have one least edge.
-least_edge_once : (net : Net) (up width : Table) (a b c e : ℕ) → IsLeastEdge net up width a b c
+pub least_edge_once : (net : Net) (up width : Table) (a b c e : ℕ) → IsLeastEdge net up width a b c
     → IsLeastEdge net up width a b e → c ≡ e
 least_edge_once net up width a b c e p q =
     let low = p.least e q.on_path in
