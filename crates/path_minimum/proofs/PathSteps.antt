@@ -1,5 +1,5 @@
 -- What one step up from its deeper end does to a path.
-use Rattle.std.proofs.Common.{◌≡◌, ◌≢◌, ℕ, ◌≤◌, false, sym, ◌∙◌, refl}
+use Rattle.std.proofs.Common.{◌≢◌, ℕ, ◌≤◌, sym, ◌∙◌, refl}
 use Rattle.std.proofs.lemmas.Bool.{false≢true, ne_eqb}
 use Rattle.cut_model.specs.Net.{Net}
 use Rattle.cut_model.specs.Terminals.{IsTerminal}

@@ -1,6 +1,7 @@
 //! How deep each router lies.
 ghost use Rattle.std.specs.Prelude.{◌≡◌, ℕ, ◌<◌, ◌≤◌, true, length, slice_index, IfOk};
 ghost use Rattle.cut_model.specs.Cuts.{set_of};
+ghost use Rattle.cut_model.specs.declared.network.TheConstants.{MOST_ROUTERS};
 ghost use Rattle.tree_state.specs.Views.{HoldsCutTree};
 ghost use Rattle.path_minimum.specs.Ladders.{depth_of, IsLadderOf};
 ghost use Rattle.path_minimum.specs.Walks.{AreKnown};
@@ -26,7 +27,8 @@ impl Model for Ladder {
 }
 
 impl Ladder {
-    /// The ladder of a tree. It takes time proportional to the number of routers: each way up is walked as
+    /// The ladder of a tree. In a tree where 1 hangs from the root 0 and 2 from 1, the depths are 0, 1, 2.
+    /// It takes time proportional to the number of routers: each way up is walked as
     /// far as the first router whose depth is known.
     ///
     /// # Errors
@@ -69,7 +71,7 @@ fn note_depths(finished: &Finished, depths: &mut [u32])
 /// The depth of a router, by that of the first known router of its way up.
 fn depth_by_known(finished: &Finished, router: u32, known: &Side, depths: &[u32]) -> u32
     requires tree { HoldsCutTree finished.now.tree }
-    requires few { finished.now.tree.net.routers ≤ 1024 }
+    requires few { finished.now.tree.net.routers ≤ MOST_ROUTERS }
     requires router { router < finished.now.tree.net.routers }
     requires known { AreKnown finished.now.tree known.now depths.now }
     ensures { result ≡ depth_of finished.now.tree router }

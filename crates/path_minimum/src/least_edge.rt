@@ -72,6 +72,9 @@ fn deeper_first(ladder: &Ladder, x: u32, y: u32) -> (u32, u32)
 /// lower end has the smallest number. Its side that holds `a` is a least cut of `a` from `b`, of the
 /// edge's width (Gomory and Hu, 1961). It walks up from both, and passes each edge of the path once. It
 /// takes no memory, and leaves the counter as it is.
+///
+/// Where 1 hangs from 0 by an edge of width 5 and 2 from 1 by one of 7, `least_on_path(&ladder, &finished,
+/// 2, 0, &mut steps)` gives `PathLeast { child: 1, width: 5 }`.
 pub fn least_on_path<L: Ledger>(
     ladder: &Ladder,
     finished: &Finished,
@@ -131,7 +134,8 @@ fn least_on_path_from<L: Ledger>(
     least_on_path(ladder, finished, a, b, &mut steps)
 }
 
-/// As `least_on_path`, for a caller that counts no steps.
+/// As `least_on_path`, for a caller that counts no steps: `least_on_path_uncounted(&ladder, &finished, 2,
+/// 0)` gives the same.
 pub fn least_on_path_uncounted(ladder: &Ladder, finished: &Finished, a: u32, b: u32) -> PathLeast
     requires ladder { IsLadderOf finished.now.tree ladder.now }
     requires a { IsTerminal finished.now.tree.net a }

@@ -2,6 +2,7 @@
 ghost use Rattle.std.specs.Prelude.{◌≡◌, ◌≢◌, ◌+◌, ◌<◌, ◌≤◌, ◌++◌, true, All};
 ghost use Rattle.std.specs.Prelude.{length, take, drop, reverse, vec_capacity, vec_len};
 ghost use Rattle.cut_model.specs.Terminals.{IsTerminal};
+ghost use Rattle.cut_model.specs.declared.network.TheConstants.{MOST_ROUTERS};
 ghost use Rattle.tree_state.specs.Views.{up_of, HoldsCutTree};
 ghost use Rattle.tree_state.specs.Shown.{ShowsSet};
 ghost use Rattle.tree_state.specs.Tables.{below};
@@ -19,7 +20,7 @@ fn mark_way(finished: &Finished, router: u32) -> Side
     ensures marks { ShowsSet finished.now.tree.net.routers
         (λ c. below finished.now.tree.net.routers (up_of finished.now.tree) c router) result }
     ensures tree { HoldsCutTree finished.now.tree }
-    ensures few { finished.now.tree.net.routers ≤ 1024 }
+    ensures few { finished.now.tree.net.routers ≤ MOST_ROUTERS }
 {
     let root = finished.root();
     let mut marks = Side::empty(finished.net().routers());
@@ -38,7 +39,7 @@ fn meeting_of(finished: &Finished, a: u32, b: u32) -> u32
     requires b { IsTerminal finished.now.tree.net b }
     ensures meeting { IsMeeting finished.now.tree.net (up_of finished.now.tree) a b result }
     ensures tree { HoldsCutTree finished.now.tree }
-    ensures few { finished.now.tree.net.routers ≤ 1024 }
+    ensures few { finished.now.tree.net.routers ≤ MOST_ROUTERS }
 {
     let marks = mark_way(finished, a);
     let mut at = b;
@@ -54,8 +55,8 @@ fn push_way(finished: &Finished, from: u32, to: u32, children: &mut Vec<u32>)
     requires from { IsTerminal finished.now.tree.net from }
     requires to { IsTerminal finished.now.tree.net to }
     requires above { below finished.now.tree.net.routers (up_of finished.now.tree) to from ≡ true }
-    requires room { vec_len children.old + depth_of finished.now.tree from ≤ 1024 + depth_of finished.now.tree to }
-    requires capacity { 1024 ≤ vec_capacity children.old }
+    requires room { vec_len children.old + depth_of finished.now.tree from ≤ MOST_ROUTERS + depth_of finished.now.tree to }
+    requires capacity { MOST_ROUTERS ≤ vec_capacity children.old }
     ensures way { children.new.items ≡ children.old.items ++ way_between finished.now.tree from to }
     ensures capacity { vec_capacity children.new ≡ vec_capacity children.old }
 {
@@ -77,6 +78,9 @@ fn turn_behind(children: &mut [u32], front: usize)
 /// Leaves the path between two terminals in the room, in its order: the edges from `a` up to where the
 /// ways up of the two meet, and from there down to `b`. Each router of the two ways up is passed at most
 /// twice. It takes no memory.
+///
+/// Where 1 hangs from 0 and 2 from 1, `path(&finished, 2, 0, &mut room)` leaves 2 and 1 in the room, and
+/// `path(&finished, 0, 2, &mut room)` leaves 1 and 2.
 pub fn path(finished: &Finished, a: u32, b: u32, room: &mut PathRoom)
     requires a { IsTerminal finished.now.tree.net a }
     requires b { IsTerminal finished.now.tree.net b }

@@ -1,6 +1,7 @@
 //! Answers from a tree of six routers, worked by hand.
 ghost use Rattle.std.specs.Prelude.{◌≡◌, ◌≤◌, [], length, IsTrue, OnOk};
 ghost use Rattle.cut_model.specs.Terminals.{IsTerminal};
+ghost use Rattle.cut_model.specs.declared.network.TheConstants.{MOST_ROUTERS};
 ghost use Rattle.path_minimum.specs.Ladders.{IsLadderOf};
 
 use crate::{Ladder, PathLeast, PathRoom, least_on_path_uncounted, path, side_holding, weakest};
@@ -14,7 +15,7 @@ use tree_state::{Finished, Growing};
 
 /// The side of these routers of so many.
 fn side_of(routers: u32, members: &[u32]) -> Side
-    requires { routers ≤ 1024 }
+    requires { routers ≤ MOST_ROUTERS }
     ensures { length result ≡ routers }
 {
     let mut side = Side::empty(routers);

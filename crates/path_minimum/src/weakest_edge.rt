@@ -31,6 +31,9 @@ fn weaker(finished: &Finished, child: u32, before: Option<PathLeast>) -> Option<
 /// The weakest edge of the tree: that of the smallest width, and of these that whose lower end has the
 /// smallest number. What is below it is a least cut of the whole network (Gomory and Hu, 1961). `None`
 /// where there is one terminal alone. It looks at each router once.
+///
+/// Where 1 hangs from 0 by an edge of width 5 and 2 from 1 by one of 7, `weakest(&finished)` gives
+/// `Some(PathLeast { child: 1, width: 5 })`.
 pub fn weakest(finished: &Finished) -> Option<PathLeast>
     ensures none { IsNone result ↔ (terminal_count finished.now.tree.net ≡ 1) }
     ensures edge { IfSome result (λ edge.

@@ -1,5 +1,6 @@
 use Rattle.std.proofs.Common.{◌≡◌, ◌+◌, ◌≤◌, ◌++◌, true, vec_len, vec_capacity}
 use Rattle.cut_model.specs.Terminals.{IsTerminal}
+use Rattle.cut_model.specs.declared.network.TheConstants.{MOST_ROUTERS}
 use Rattle.tree_state.specs.Views.{up_of}
 use Rattle.tree_state.specs.Tables.{below}
 use Rattle.path_minimum.specs.Ladders.{depth_of}
@@ -14,7 +15,7 @@ invariant-loop-at l = record {
   added :
       l.children.items ++ way_between l.finished.tree l.at l.to
       ≡ l.fn.children.items ++ way_between l.finished.tree l.from l.to;
-  room : vec_len l.children + depth_of l.finished.tree l.at ≤ 1024 + depth_of l.finished.tree l.to;
+  room : vec_len l.children + depth_of l.finished.tree l.at ≤ MOST_ROUTERS + depth_of l.finished.tree l.to;
   capacity : vec_capacity l.children ≡ vec_capacity l.fn.children;
 }
 
