@@ -7,6 +7,8 @@
 mod record;
 mod shelf;
 mod solo;
+#[cfg(test)]
+mod tests;
 
 pub use record::Record;
 pub use shelf::{MOST_RECORDS, PublishFault, Shelf};

@@ -34,7 +34,8 @@ impl Model for Record {
 }
 
 impl Record {
-    /// The record of a sheet and of the finished run over its network. It makes the ladder of the tree.
+    /// The record of a sheet and of the finished run over its network. It makes the ladder of the tree, so
+    /// `record.ladder()` is that of `record.finished()`.
     ///
     /// # Errors
     /// [`NoMemory`] where the memory of a record can't be had.

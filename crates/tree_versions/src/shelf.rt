@@ -47,7 +47,8 @@ pub trait Shelf {
     /// The tree of each record that is seen is a cut tree.
     ghost trees: { (shelf : Self) → AreCutTrees (seen shelf) };
 
-    /// Sees what others have published, and tells how many records are seen.
+    /// Sees what others have published, and tells how many records are seen. Where nobody has published,
+    /// `shelf.look()` gives 0.
     fn look(&mut self) -> u32
         ensures seen { Looks (alone self.old) (seen self.old) (seen self.new) }
         ensures count { result ≡ length (seen self.new) }
@@ -55,13 +56,15 @@ pub trait Shelf {
         ensures alone { alone self.new ≡ alone self.old }
         ensures sure { sure self.new ≡ sure self.old };
 
-    /// The record of a version that was seen. It takes no memory and waits for nobody.
+    /// The record of a version that was seen: `shelf.record_at(1)` is the first of all. It takes no memory
+    /// and waits for nobody.
     fn record_at(&self, version: u32) -> &Record
         requires first { 0 < version }
         requires last { version ≤ length (seen self.now) }
         ensures { Some result.now ≡ at_version (seen self.now) version };
 
-    /// Publishes a record, and tells its version.
+    /// Publishes a record, and tells its version: where `shelf.look()` gives 2 and nobody else publishes,
+    /// `shelf.publish(new)` gives `Ok(3)`.
     ///
     /// # Errors
     /// [`PublishFault::Full`] exactly where [`MOST_RECORDS`] records are held, and [`PublishFault::NoMemory`] where memory
