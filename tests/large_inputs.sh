@@ -120,3 +120,62 @@ try_in_pieces the_longest_chain_is_its_own_tree_and_path 0 "$room/wanted" "$room
     printf '%s\n' '@1 WEAKEST 8192000000000000 side b' '@1 CUT 8192000000000000 side a'
 } >"$room/wanted"
 try the_widest_edge_of_a_tree 0 "$room/wanted" "$room/stdin" plan
+
+# Networks of forty sizes, from one router without a link to 1,024 with 8,192, in texts of up to 30,000
+# lines, of which most are remarks and empty. The routers stand in a row, and the links join neighbours,
+# one pair after the other. So r0 is cut off by its links to r1, and on its side are those routers that
+# no link reaches.
+awk -v inputs="$room/stdin" -v replies="$room/wanted" '
+    # The lines of the text that say something, one after another.
+    function say(i) {
+        if (i < routers) {
+            return "router r" i
+        }
+        i = (i - routers) % (routers > 1 ? routers - 1 : 1)
+        return "link r" i " r" (routers > 1 ? i + 1 : 0) " 1"
+    }
+
+    function write_text() {
+        print "LOAD" >inputs
+        said = 0
+        for (line = 1; line <= lines; line++) {
+            if (said * lines < line * (routers + links)) {
+                print say(said++) >inputs
+            } else {
+                print (line % 2 ? "" : "# " line) >inputs
+            }
+        }
+        print "END" >inputs
+    }
+
+    function write_cut() {
+        print "CUT r0 r1" >inputs
+        if (routers == 1) {
+            print "@" version " NO 4" >replies
+            return
+        }
+        value = int((links + routers - 2) / (routers - 1))
+        printf "@%d CUT %d side r0", version, value >replies
+        for (i = 2; i < routers; i++) {
+            if (i > links) {
+                printf " r%d", i >replies
+            }
+        }
+        print "" >replies
+    }
+
+    BEGIN {
+        for (size = 0; size < 40; size++) {
+            version = size + 1
+            routers = 1 + int(size * 1023 / 39)
+            links = size < 39 ? int(size * 7 % 39 * 8192 / 39) : 8192
+            lines = 750 * version
+            if (lines < routers + links) {
+                lines = routers + links
+            }
+            write_text()
+            print "@" version " LOADED routers " routers " links " links >replies
+            write_cut()
+        }
+    }'
+try networks_of_forty_sizes_in_texts_of_up_to_30000_lines 0 "$room/wanted" "$room/stdin" plan
