@@ -1,10 +1,21 @@
 -- A run that reads nothing took no bytes.
-use Rattle.std.proofs.Common.{◌≡◌, ℕ, ◌^◌, List, ◌++◌, length, Some, sym, ap, ◌∙◌, arith, length-append}
+use Rattle.std.proofs.Common.{◌≡◌, ℕ, ◌^◌, List, ◌++◌, length, Some, sym, ap, ◌∙◌, arith, length-append, inr, refl}
 use Rattle.std.specs.declared.option.Option.{Option}
+use Rattle.planner_server.specs.Runs.{PlanRan, RunView}
+use Rattle.planner_server.specs.declared.outcome.Status.TheVariants.{NoMemory}
 
 -- where nothing was taken, not many bytes were
-pub none_taken : (told : Option (List ℕ)) (taken rest : List ℕ) → told ≡ Some (taken ++ rest) → told ≡ Some rest
+none_taken : (told : Option (List ℕ)) (taken rest : List ℕ) → told ≡ Some (taken ++ rest) → told ≡ Some rest
     → length taken ≡ 2 ^ 30 → ⊥
 none_taken told taken rest before after many =
     let same : taken ++ rest ≡ rest = (let e : Some (taken ++ rest) ≡ Some rest = sym before ∙ after in cc) in
     omega (arith, ap length same, length-append taken rest)
+
+-- where there was no memory to begin with, `plan` leaves the source as it was
+pub no_memory : (run : RunView) → run.left ≡ run.left0 → PlanRan NoMemory run
+no_memory run same = record {
+  ends = tt;
+  completes = λ bytes is few reads puts. inr refl;
+  always_too_long = λ taken rest before after many unmet quiet sound.
+      absurd (none_taken run.left0 taken rest before (sym same ∙ after) many);
+}

@@ -1,3 +1,3 @@
-pub mod Commanding
-pub mod Standing
 pub mod Deciding
+pub mod Examples
+pub mod Reading

@@ -1,2 +1,5 @@
 pub mod Commands
+pub mod Options
 pub mod Runs
+pub mod Shelves
+pub mod Statuses

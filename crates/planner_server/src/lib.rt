@@ -1,12 +1,17 @@
-//! The planner: one session of request lines over a source and a sink.
+//! The planner: the command that a command line names, run over a source and a sink.
 //!
-//! `run` answers each item of the input from the networks that it has loaded. Its contract says of
-//! every end what was written: the replies to the items that were read, over the records that it
-//! hands back and no others.
+//! `run` reads the words once, and runs the command that they name. Its contract says by the command and the
+//! status what was written: of `plan`, the replies to the items that were read, over the records that it hands back
+//! and no others.
 #![tactic(auto)]
 
+mod command;
+mod options;
 mod outcome;
 mod planner;
+#[cfg(test)]
+mod tests;
 
+pub use command::Command;
 pub use outcome::{Outcome, Status};
 pub use planner::run;

@@ -21,11 +21,12 @@ use Rattle.std.specs.Prelude.{slice_get}
 use Rattle.network_text.specs.Sheets.{SheetView}
 use Rattle.network_text.specs.Texts.{verdict_of}
 use Rattle.network_text.specs.declared.fault.TextFault.{TextFault}
-use Rattle.session.specs.Answers.{Answers, IsReply, IsTold, LoadStep, Stays, Step}
-use Rattle.session.specs.Modes.{Gives, IsReached, IsServed, Leads}
+use Rattle.session.specs.Answers.{Answers, IsReply, IsTold, LoadStep, KeepsVersion, Step}
+use Rattle.session.specs.Modes.{Gives, IsReached, IsServed, LeadsOn}
 use Rattle.text_forms.specs.Items.{Item, Ask, Load, Bye}
 use Rattle.tree_versions.specs.Records.{RecordView, Grows, record_at}
 use Rattle.tree_versions.specs.Shelves.{Looks}
+use Rattle.tree_versions.specs.declared.shelf.TheConstants.{MOST_RECORDS}
 
 -- a number and nothing
 zero_plus : (m : ℕ) → m ≡ 0 + m
@@ -62,17 +63,17 @@ record_at-grown : (records more : List RecordView) (version : ℕ) → version �
 record_at-grown records more zero low = refl
 record_at-grown records more (suc version) low = slice_get-grown records more version (omega arith)
 
-module _ (alone : Bool) (records more : List RecordView) (few : length (records ++ more) ≤ 256) where
+module _ (alone : Bool) (records more : List RecordView) (few : length (records ++ more) ≤ MOST_RECORDS) where
   -- a reply that publishes nothing stays right where records are added behind
   IsTold-grown : (seen next loads : ℕ) (P Q : Type 0) → IsTold alone records seen next loads P
       → (next ≤ length records → P → Q) → IsTold alone (records ++ more) seen next loads Q
   IsTold-grown seen next loads P Q told on = record {
-    stays = record {
-      later = told.stays.later;
-      there = omega (arith, told.stays.there, length-append records more);
-      same = told.stays.same;
+    keeps = record {
+      later = told.keeps.later;
+      there = omega (arith, told.keeps.there, length-append records more);
+      same = told.keeps.same;
     };
-    told = on told.stays.there told.told;
+    told = on told.keeps.there told.told;
     counted = told.counted;
   }
 
@@ -132,10 +133,11 @@ module _ (alone : Bool) (records more : List RecordView) (few : length (records 
 
 -- answers stay right while the list grows, since it never holds more than 256
 pub Answers-grow : (alone : Bool) (records all : List RecordView) (seen : ℕ) (items : List Item) (text : List ℕ)
-    (last loads : ℕ) → Grows records all → length all ≤ 256 → Answers alone records seen items text last loads
+    (last loads : ℕ) → Grows records all → length all ≤ MOST_RECORDS → Answers alone records seen items text last loads
     → Answers alone all seen items text last loads
 Answers-grow alone records all seen items text last loads grows few p =
-    let few' : length (records ++ grows.0) ≤ 256 = subst (λ (v : List RecordView). length v ≤ 256) grows.1 few in
+    let few' : length (records ++ grows.0) ≤ MOST_RECORDS = subst (λ (v : List RecordView). length v ≤ MOST_RECORDS)
+    grows.1 few in
     subst (λ (v : List RecordView). Answers alone v seen items text last loads) (sym grows.1)
     (Answers-grown alone records grows.0 few' seen items text last loads p)
 
@@ -159,11 +161,13 @@ Looks-trans alone a b c p q = record {
 }
 
 -- what is served goes on by what a line gives
-pub IsServed-on : (alone : Bool) (seen0 : List RecordView) (own0 : ℕ) (records after : List RecordView) (own own2 : ℕ)
+pub IsServed-on : (alone : Bool) (seen0 : List RecordView) (published0 : ℕ) (records after : List RecordView)
+    (published published2 : ℕ)
     (done items : List Item) (text out : List ℕ)
-    → IsServed alone seen0 own0 records own done text → Gives alone records own items out after own2
-    → IsServed alone seen0 own0 after own2 (done ++ items) (text ++ out)
-IsServed-on alone seen0 own0 records after own own2 done items text out p gives =
+    → IsServed alone seen0 published0 records published done text → Gives alone records published items out after
+    published2
+    → IsServed alone seen0 published0 after published2 (done ++ items) (text ++ out)
+IsServed-on alone seen0 published0 records after published published2 done items text out p gives =
     let a = p.answers in
     let b = gives.leads.on a.last a.reached in record {
       loads = p.loads + gives.loads;
@@ -172,18 +176,19 @@ IsServed-on alone seen0 own0 records after own own2 done items text out p gives 
       answers = record {
         last = b.last;
         reached = b.reached;
-        holds = Answers-append alone after done items (length seen0) a.last b.last text out p.loads gives.loads
+        fact = Answers-append alone after done items (length seen0) a.last b.last text out p.loads gives.loads
             (Answers-grow alone records after (length seen0) done text a.last p.loads gives.leads.grows
-            gives.leads.few a.holds) b.holds;
+            gives.leads.few a.fact) b.fact;
       };
     }
 
 -- two stretches of items that each lead from records to more records
-pub Gives-join : (alone : Bool) (records mid after : List RecordView) (own own1 own2 : ℕ) (xs ys : List Item)
+pub Gives-join : (alone : Bool) (records mid after : List RecordView) (published published1 published2 : ℕ)
+    (xs ys : List Item)
     (out more : List ℕ)
-    → Gives alone records own xs out mid own1 → Gives alone mid own1 ys more after own2
-    → Gives alone records own (xs ++ ys) (out ++ more) after own2
-Gives-join alone records mid after own own1 own2 xs ys out more p q = record {
+    → Gives alone records published xs out mid published1 → Gives alone mid published1 ys more after published2
+    → Gives alone records published (xs ++ ys) (out ++ more) after published2
+Gives-join alone records mid after published published1 published2 xs ys out more p q = record {
   loads = p.loads + q.loads;
   counted = omega (arith, p.counted, q.counted);
   leads = record {
@@ -194,30 +199,31 @@ Gives-join alone records mid after own own1 own2 xs ys out more p q = record {
         let b = q.leads.on a.last a.reached in record {
           last = b.last;
           reached = b.reached;
-          holds = Answers-append alone after xs ys seen a.last b.last out more p.loads q.loads
-              (Answers-grow alone mid after seen xs out a.last p.loads q.leads.grows q.leads.few a.holds) b.holds;
+          fact = Answers-append alone after xs ys seen a.last b.last out more p.loads q.loads
+              (Answers-grow alone mid after seen xs out a.last p.loads q.leads.grows q.leads.few a.fact) b.fact;
         };
   };
 }
 
 -- nothing was served yet
-pub serves_none : (alone : Bool) (records : List RecordView) (own : ℕ) → IsServed alone records own records own [] []
-serves_none alone records own = record {
+pub serves_none : (alone : Bool) (records : List RecordView) (published : ℕ)
+    → IsServed alone records published records published [] []
+serves_none alone records published = record {
   loads = 0;
   grows = grows_none records;
   counted = omega arith;
   answers = record {
     last = length records;
     reached = record { there = omega arith; last = λ only. refl };
-    holds = (refl, refl, refl);
+    fact = (refl, refl, refl);
   };
 }
 
-module _ (alone : Bool) (old new : List RecordView) (own own2 : ℕ) (few : length new ≤ 256)
-    (looks : Looks alone old new) (kept : own2 ≡ own) where
+module _ (alone : Bool) (old new : List RecordView) (published published2 : ℕ) (few : length new ≤ MOST_RECORDS)
+    (looks : Looks alone old new) (kept : published2 ≡ published) where
   -- the version of a look isn't older than what was told before
-  stays : (seen : ℕ) → IsReached alone old seen → Stays alone new seen (length new)
-  stays seen reached = record {
+  keeps : (seen : ℕ) → IsReached alone old seen → KeepsVersion alone new seen (length new)
+  keeps seen reached = record {
     later = omega (arith, reached.there, Grows-length old new looks.grows);
     there = omega arith;
     same = λ only. ap length (looks.still only) ∙ sym (reached.last only);
@@ -228,7 +234,7 @@ module _ (alone : Bool) (old new : List RecordView) (own own2 : ℕ) (few : leng
   reached_all = record { there = omega arith; last = λ only. refl }
 
   -- a look gives no item
-  pub Gives-none : Gives alone old own [] [] new own2
+  pub Gives-none : Gives alone old published [] [] new published2
   Gives-none = record {
     loads = 0;
     counted = omega (arith, kept);
@@ -241,29 +247,30 @@ module _ (alone : Bool) (old new : List RecordView) (own own2 : ℕ) (few : leng
           there = omega (arith, reached.there, Grows-length old new looks.grows);
           last = λ only. reached.last only ∙ sym (ap length (looks.still only));
         };
-        holds = (refl, refl, refl);
+        fact = (refl, refl, refl);
       };
     };
   }
 
   -- a look leads to its version
-  pub look_leads : (P : ℕ → ℕ → Type 0) → ((seen : ℕ) → Stays alone new seen (length new) → P seen (length new))
-      → Leads alone old new P
+  pub look_leads : (P : ℕ → ℕ → Type 0) → ((seen : ℕ) → KeepsVersion alone new seen (length new) → P seen (length new))
+      → LeadsOn alone old new P
   look_leads P holds = record {
     grows = looks.grows;
     few = few;
     on = λ seen reached. record {
       last = length new;
       reached = reached_all;
-      holds = holds seen (stays seen reached);
+      fact = holds seen (keeps seen reached);
     };
   }
 
 -- an item whose steps lead from records to records
-pub Gives-one : (alone : Bool) (old new : List RecordView) (own own2 : ℕ) (item : Item) (reply : List ℕ) (loads : ℕ)
-    → own2 ≡ own + loads → Leads alone old new (λ seen next. Step alone new seen item reply next loads)
-    → Gives alone old own (item ∷ []) reply new own2
-Gives-one alone old new own own2 item reply loads counted leads = record {
+pub Gives-one : (alone : Bool) (old new : List RecordView) (published published2 : ℕ) (item : Item) (reply : List ℕ)
+    (loads : ℕ)
+    → published2 ≡ published + loads → LeadsOn alone old new (λ seen next. Step alone new seen item reply next loads)
+    → Gives alone old published (item ∷ []) reply new published2
+Gives-one alone old new published published2 item reply loads counted leads = record {
   loads = loads;
   counted = counted;
   leads = record {
@@ -272,13 +279,13 @@ Gives-one alone old new own own2 item reply loads counted leads = record {
     on = λ seen reached. let a = leads.on seen reached in record {
       last = a.last;
       reached = a.reached;
-      holds = record {
+      fact = record {
         reply = reply;
         rest = [];
         next = a.last;
         loaded = loads;
         others = 0;
-        step = a.holds;
+        step = a.fact;
         joins = sym (append-nil reply);
         sum = omega arith;
         on = (refl, refl, refl);
@@ -288,7 +295,11 @@ Gives-one alone old new own own2 item reply loads counted leads = record {
 }
 
 -- records on which nobody looked give no item
-pub Gives-still : (alone : Bool) (records : List RecordView) (own : ℕ) → length records ≤ 256
-    → Gives alone records own [] [] records own
-Gives-still alone records own few =
-    Gives-none alone records records own own few (record { grows = grows_none records; still = λ only. refl }) refl
+pub Gives-still : (alone : Bool) (records : List RecordView) (published : ℕ) → length records ≤ MOST_RECORDS
+    → Gives alone records published [] [] records published
+Gives-still alone records published few =
+    Gives-none alone records records published published few (record {
+      grows = grows_none records;
+      still = λ only.
+          refl;
+    }) refl

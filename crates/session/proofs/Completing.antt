@@ -18,13 +18,13 @@ taken_fit (Some xs) (Some ys) all bytes is gone =
 
 -- where fewer than 2^30 bytes were there and nothing failed, the session is done
 pub is_done : (end : SessionEnd) (left0 written0 left : Option (List ℕ)) (ended : Bool) (written : Option (List ℕ))
-    (alone : Bool) (seen0 : List RecordView) (own0 : ℕ) (records : List RecordView) (own : ℕ) (all : List ℕ)
-    → EndsAs end left0 written0 left ended written alone seen0 own0 records own
+    (alone : Bool) (seen0 : List RecordView) (published0 : ℕ) (records : List RecordView) (published : ℕ) (all : List ℕ)
+    → EndsAs end left0 written0 left ended written alone seen0 published0 records published
     → left0 ≡ Some all → length all < 2 ^ 30 → (end ≡ ReadFault → ⊥) → (end ≡ WriteFault → ⊥) → end ≡ Done
-is_done Done left0 written0 left ended written alone seen0 own0 records own all e is few reads puts = refl
-is_done ReadFault left0 written0 left ended written alone seen0 own0 records own all e is few reads puts =
+is_done Done left0 written0 left ended written alone seen0 published0 records published all e is few reads puts = refl
+is_done ReadFault left0 written0 left ended written alone seen0 published0 records published all e is few reads puts =
     absurd (reads refl)
-is_done WriteFault left0 written0 left ended written alone seen0 own0 records own all e is few reads puts =
+is_done WriteFault left0 written0 left ended written alone seen0 published0 records published all e is few reads puts =
     absurd (puts refl)
-is_done TooLong left0 written0 left ended written alone seen0 own0 records own all e is few reads puts =
+is_done TooLong left0 written0 left ended written alone seen0 published0 records published all e is few reads puts =
     absurd (omega (arith, taken_fit left0 left all e.bytes is e.gone, e.why.0, few))

@@ -30,10 +30,13 @@ bye_behind (Bye ∷ front) quiet = quiet
 
 -- 2^30 bytes without a BYE, and no end, are too many
 pub always_long : (end : SessionEnd) (told told2 written0 written : Option (List ℕ)) (ended : Bool)
-    (alone : Bool) (seen0 : List RecordView) (own0 : ℕ) (records : List RecordView) (own : ℕ) (taken rest : List ℕ)
-    → EndsAs end told written0 told2 ended written alone seen0 own0 records own → told ≡ Some (taken ++ rest) → told2 ≡ Some rest
+    (alone : Bool) (seen0 : List RecordView) (published0 : ℕ) (records : List RecordView) (published : ℕ)
+    (taken rest : List ℕ)
+    → EndsAs end told written0 told2 ended written alone seen0 published0 records published
+    → told ≡ Some (taken ++ rest) → told2 ≡ Some rest
     → length taken ≡ 2 ^ 30 → ended ≡ false → NoBye (items_of false taken) → (end ≡ WriteFault → ⊥) → end ≡ TooLong
-always_long Done told told2 written0 written ended alone seen0 own0 records own taken rest e before after many unmet quiet sound =
+always_long Done told told2 written0 written ended alone seen0 published0 records published taken rest e before after
+    many unmet quiet sound =
     absurd (complete e.why)
   where
     same : e.bytes ≡ taken
@@ -45,8 +48,11 @@ always_long Done told told2 written0 written ended alone seen0 own0 records own 
         ap (items_of false) (sym same) ∙ ap (λ (b : Bool). items_of b e.bytes) (sym unmet) ∙ is in
         bye_behind front (subst NoBye items quiet)
     complete (inr over) = let e : true ≡ false = sym over.0 ∙ unmet in cc
-always_long ReadFault told told2 written0 written ended alone seen0 own0 records own taken rest e before after many unmet quiet sound =
+always_long ReadFault told told2 written0 written ended alone seen0 published0 records published taken rest e before
+    after many unmet quiet sound =
     absurd (omega (arith, e.why.0, ap length (taken_is told told2 taken rest e.bytes before after e.gone), many))
-always_long WriteFault told told2 written0 written ended alone seen0 own0 records own taken rest e before after many unmet quiet sound =
+always_long WriteFault told told2 written0 written ended alone seen0 published0 records published taken rest e before
+    after many unmet quiet sound =
     absurd (sound refl)
-always_long TooLong told told2 written0 written ended alone seen0 own0 records own taken rest e before after many unmet quiet sound = refl
+always_long TooLong told told2 written0 written ended alone seen0 published0 records published taken rest e before
+    after many unmet quiet sound = refl

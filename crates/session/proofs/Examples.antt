@@ -105,7 +105,7 @@ cut_reply = record {
 -- a reply by version 1 that publishes nothing
 by_first : (P : Type 0) → P → IsTold true (made ∷ []) 1 1 0 P
 by_first P told = record {
-  stays = record { later = omega arith; there = omega arith; same = λ only. refl };
+  keeps = record { later = omega arith; there = omega arith; same = λ only. refl };
   told = told;
   counted = refl;
 }
@@ -199,7 +199,7 @@ later = record {
   loaded = 0;
   others = 0;
   step = record {
-    stays = record { later = omega arith; there = omega arith; same = λ only. absurd (cc) };
+    keeps = record { later = omega arith; there = omega arith; same = λ only. absurd (cc) };
     told = refl;
     counted = refl;
   };

@@ -12,65 +12,69 @@ use Rattle.network_text.specs.declared.fault.TextKind.TheVariants.{Memory}
 use Rattle.query_lang.specs.Replies.{loaded_text, refused_text}
 use Rattle.session.specs.Answers.{IsTextRefusal, LoadStep}
 use Rattle.session.specs.Modes.{Closing, Gives, Loads, gives, next_text}
-use Rattle.session.specs.Taking.{HasRead, Holds, IsTaken}
+use Rattle.session.specs.Taking.{HasRead, HasOpen, IsTaken}
 use Rattle.session.specs.declared.intake.Intake.{Intake}
 use Rattle.session.specs.declared.intake.Intake.TheVariants.{Between, Text, Lost}
 use Rattle.session.proofs.Answering.{look_leads, Gives-one, Gives-still}
 use Rattle.text_forms.specs.Items.{Item, Load}
 use Rattle.text_forms.specs.Words.{is_end}
 use Rattle.tree_versions.specs.Records.{RecordView}
-use Rattle.tree_versions.specs.Shelves.{Looks, IsFull, IsPublishedAt}
+use Rattle.tree_versions.specs.Shelves.{Looks, IsPublishedAt, IsFull}
+use Rattle.tree_versions.specs.declared.shelf.TheConstants.{MOST_RECORDS}
 
-module _ (alone : Bool) (old new : List RecordView) (own own2 : ℕ) (reply : List ℕ) (few : length new ≤ 256)
-    (looks : Looks alone old new) (kept : own2 ≡ own) where
+module _ (alone : Bool) (old new : List RecordView) (published published2 : ℕ) (reply : List ℕ)
+    (few : length new ≤ MOST_RECORDS)
+    (looks : Looks alone old new) (kept : published2 ≡ published) where
   -- the refusal of a faulty text
   pub fault_loads : (fault : TextFault) → IsTextRefusal (length new) fault reply
-      → Loads alone old own (Err fault) reply new own2
+      → Loads alone old published (Err fault) reply new published2
   fault_loads fault told = record {
     loads = 0;
     counted = omega (arith, kept);
-    leads = look_leads alone old new own own2 few looks kept
+    leads = look_leads alone old new published published2 few looks kept
         (λ seen next. LoadStep alone new seen (Err fault) reply next 0)
-        (λ seen stays. record { stays = stays; told = told; counted = refl });
+        (λ seen keeps. record { keeps = keeps; told = told; counted = refl });
   }
 
   -- want of memory may be told of each text
   pub want_loads : (verdict : Result SheetView TextFault) → reply ≡ refused_text (length new) 90 None
-      → Loads alone old own verdict reply new own2
+      → Loads alone old published verdict reply new published2
   want_loads (Err fault) told = fault_loads fault (inr told)
   want_loads (Ok sheet) told = record {
     loads = 0;
     counted = omega (arith, kept);
-    leads = look_leads alone old new own own2 few looks kept
+    leads = look_leads alone old new published published2 few looks kept
         (λ seen next. LoadStep alone new seen (Ok sheet) reply next 0)
-        (λ seen stays. inr (inr (record { stays = stays; told = told; counted = refl })));
+        (λ seen keeps. inr (inr (record { keeps = keeps; told = told; counted = refl })));
   }
 
 -- no record can be added to 256
-pub full_loads : (alone : Bool) (old new : List RecordView) (own own2 : ℕ) (reply : List ℕ) (sheet : SheetView)
-    → IsFull alone old new → own2 ≡ own → reply ≡ refused_text 256 20 None
-    → Loads alone old own (Ok sheet) reply new own2
-full_loads alone old new own own2 reply sheet full kept told = record {
+pub full_loads : (alone : Bool) (old new : List RecordView) (published published2 : ℕ) (reply : List ℕ)
+    (sheet : SheetView)
+    → IsFull alone old new → published2 ≡ published → reply ≡ refused_text MOST_RECORDS 20 None
+    → Loads alone old published (Ok sheet) reply new published2
+full_loads alone old new published published2 reply sheet full kept told = record {
   loads = 0;
   counted = omega (arith, kept);
-  leads = look_leads alone old new own own2 (omega (arith, full.full)) full.looks kept
+  leads = look_leads alone old new published published2 (omega (arith, full.full)) full.looks kept
       (λ seen next. LoadStep alone new seen (Ok sheet) reply next 0)
-      (λ seen stays. inr (inl (record {
+      (λ seen keeps. inr (inl (record {
         full = full.full;
         all = full.full;
-        later = stays.later;
+        later = keeps.later;
         text = told;
-        same = λ only. sym (stays.same only) ∙ full.full;
+        same = λ only. sym (keeps.same only) ∙ full.full;
         counted = refl;
       })));
 }
 
 -- a record was published, and the reply has its version
-pub stands_loads : (alone : Bool) (old new : List RecordView) (own own2 : ℕ) (reply : List ℕ) (added : RecordView)
-    (version : ℕ) → length new ≤ 256 → IsPublishedAt alone old new added version → own2 ≡ own + 1
+pub stands_loads : (alone : Bool) (old new : List RecordView) (published published2 : ℕ) (reply : List ℕ)
+    (added : RecordView)
+    (version : ℕ) → length new ≤ MOST_RECORDS → IsPublishedAt alone old new added version → published2 ≡ published + 1
     → reply ≡ loaded_text version added.sheet.net
-    → Loads alone old own (Ok added.sheet) reply new own2
-stands_loads alone old new own own2 reply added version few stands counted told = record {
+    → Loads alone old published (Ok added.sheet) reply new published2
+stands_loads alone old new published published2 reply added version few stands counted told = record {
   loads = 1;
   counted = counted;
   leads = record {
@@ -79,7 +83,7 @@ stands_loads alone old new own own2 reply added version few stands counted told 
     on = λ seen reached. record {
       last = version;
       reached = record { there = omega (arith, stands.last); last = λ only. sym stands.last };
-      holds = inl (record {
+      fact = inl (record {
         later = omega (arith, reached.there, stands.later);
         made = added;
         place = stands.place;
@@ -95,11 +99,12 @@ stands_loads alone old new own own2 reply added version few stands counted told 
 }
 
 -- a text that was loaded is an item that was answered
-pub Loads-gives : (alone : Bool) (old new : List RecordView) (own own2 : ℕ) (text : List (List ℕ)) (whole : Bool)
-    (reply : List ℕ) → Loads alone old own (verdict_of text whole) reply new own2
-    → Gives alone old own (Load text whole ∷ []) reply new own2
-Loads-gives alone old new own own2 text whole reply p =
-    Gives-one alone old new own own2 (Load text whole) reply p.loads p.counted p.leads
+pub Loads-gives : (alone : Bool) (old new : List RecordView) (published published2 : ℕ) (text : List (List ℕ))
+    (whole : Bool)
+    (reply : List ℕ) → Loads alone old published (verdict_of text whole) reply new published2
+    → Gives alone old published (Load text whole ∷ []) reply new published2
+Loads-gives alone old new published published2 text whole reply p =
+    Gives-one alone old new published published2 (Load text whole) reply p.loads p.counted p.leads
 
 -- Want of memory is the verdict.
 record Wanted (verdict : Result SheetView TextFault) : Type 0 where
@@ -126,13 +131,14 @@ closes_err (Err other) fault closes = inl (sym closes)
 closes_err (Ok sheet) fault (inl is) = absurd (cc)
 closes_err (Ok sheet) fault (inr want) = inr want
 
-module _ (alone : Bool) (old new : List RecordView) (own own2 : ℕ) (reply : List ℕ) (progress : Progress)
+module _ (alone : Bool) (old new : List RecordView) (published published2 : ℕ) (reply : List ℕ) (progress : Progress)
     (ended : Bool) (text : List (List ℕ)) (read : HasRead progress text) where
   -- the sheet of a reader is that of the text
   pub closed_ok : (sheet : SheetView) → Closes (verdict_at ended progress) (Ok sheet)
-      → Loads alone old own (Ok sheet) reply new own2 → Loads alone old own (verdict_of text ended) reply new own2
+      → Loads alone old published (Ok sheet) reply new published2 → Loads alone old published (verdict_of text ended)
+      reply new published2
   closed_ok sheet closes loads =
-      subst (λ (v : Result SheetView TextFault). Loads alone old own v reply new own2) (sym (of read)) loads
+      subst (λ (v : Result SheetView TextFault). Loads alone old published v reply new published2) (sym (of read)) loads
     where
       of : HasRead progress text → verdict_of text ended ≡ Ok sheet
       of (inl is) = ap (verdict_at ended) (sym is) ∙ closes_ok (verdict_at ended progress) sheet closes
@@ -142,22 +148,23 @@ module _ (alone : Bool) (old new : List RecordView) (own own2 : ℕ) (reply : Li
           sym w.is ∙ closes_ok (verdict_at ended progress) sheet closes in cc)
 
   -- the fault of a reader is that of the text, or want of memory
-  pub closed_err : length new ≤ 256 → Looks alone old new → own2 ≡ own → (fault : TextFault)
+  pub closed_err : length new ≤ MOST_RECORDS → Looks alone old new → published2 ≡ published → (fault : TextFault)
       → Closes (verdict_at ended progress) (Err fault) → IsTextRefusal (length new) fault reply
       → (fault.kind ≡ Memory → reply ≡ refused_text (length new) 90 None)
-      → Loads alone old own (verdict_of text ended) reply new own2
+      → Loads alone old published (verdict_of text ended) reply new published2
   closed_err few looks kept fault closes told lost =
       of read (closes_err (verdict_at ended progress) fault closes)
     where
-      by_want : fault.kind ≡ Memory → Loads alone old own (verdict_of text ended) reply new own2
-      by_want want = want_loads alone old new own own2 reply few looks kept (verdict_of text ended) (lost want)
+      by_want : fault.kind ≡ Memory → Loads alone old published (verdict_of text ended) reply new published2
+      by_want want = want_loads alone old new published published2 reply few looks kept (verdict_of text ended)
+          (lost want)
 
       of : HasRead progress text → (verdict_at ended progress ≡ Err fault) ⊎ (fault.kind ≡ Memory)
-          → Loads alone old own (verdict_of text ended) reply new own2
+          → Loads alone old published (verdict_of text ended) reply new published2
       of (inl is) (inl same) =
           let verdict : verdict_of text ended ≡ Err fault = ap (verdict_at ended) (sym is) ∙ same in
-          subst (λ (v : Result SheetView TextFault). Loads alone old own v reply new own2) (sym verdict)
-          (fault_loads alone old new own own2 reply few looks kept fault told)
+          subst (λ (v : Result SheetView TextFault). Loads alone old published v reply new published2) (sym verdict)
+          (fault_loads alone old new published published2 reply few looks kept fault told)
       of (inl is) (inr want) = by_want want
       of (inr lack) (inr want) = by_want want
       of (inr lack) (inl same) =
@@ -167,15 +174,15 @@ module _ (alone : Bool) (old new : List RecordView) (own own2 : ℕ) (reply : Li
           by_want (subst (λ (g : TextFault). g.kind ≡ Memory) f w.memory)
 
 -- a line that ends a text was taken
-pub ended_taken : (alone : Bool) (old new : List RecordView) (own own2 : ℕ) (text : List (List ℕ))
+pub ended_taken : (alone : Bool) (old new : List RecordView) (published published2 : ℕ) (text : List (List ℕ))
     (line reply : List ℕ)
-    → is_end line ≡ true → Loads alone old own (verdict_of text true) reply new own2
-    → IsTaken alone old own new own2 (Some text) Between line reply
-ended_taken alone old new own own2 text line reply end loads = record {
+    → is_end line ≡ true → Loads alone old published (verdict_of text true) reply new published2
+    → IsTaken alone old published new published2 (Some text) Between line reply
+ended_taken alone old new published published2 text line reply end loads = record {
   quiet = λ none passed load. absurd (cc);
-  given = subst (λ (items : List Item). Gives alone old own items reply new own2) (sym gives_is)
-      (Loads-gives alone old new own own2 text true reply loads);
-  holds = subst (λ (m : Option (List (List ℕ))). Holds Between m) (sym next_is) tt;
+  given = subst (λ (items : List Item). Gives alone old published items reply new published2) (sym gives_is)
+      (Loads-gives alone old new published published2 text true reply loads);
+  left_open = subst (λ (m : Option (List (List ℕ))). HasOpen Between m) (sym next_is) tt;
 }
   where
     gives_is : gives (Some text) line ≡ Load text true ∷ []
@@ -185,14 +192,14 @@ ended_taken alone old new own own2 text line reply end loads = record {
     next_is = rw end refl
 
 -- a further line of a text was taken
-pub more_taken : (alone : Bool) (records : List RecordView) (own : ℕ) (text : List (List ℕ)) (intake : Intake)
-    (line : List ℕ) → length records ≤ 256 → is_end line ≡ false → Holds intake (Some (text ++ line ∷ []))
-    → IsTaken alone records own records own (Some text) intake line []
-more_taken alone records own text intake line few more holds = record {
+pub more_taken : (alone : Bool) (records : List RecordView) (published : ℕ) (text : List (List ℕ)) (intake : Intake)
+    (line : List ℕ) → length records ≤ MOST_RECORDS → is_end line ≡ false → HasOpen intake (Some (text ++ line ∷ []))
+    → IsTaken alone records published records published (Some text) intake line []
+more_taken alone records published text intake line few more left_open = record {
   quiet = λ none passed load. absurd (cc);
-  given = subst (λ (items : List Item). Gives alone records own items [] records own) (sym gives_is)
-      (Gives-still alone records own few);
-  holds = subst (λ (m : Option (List (List ℕ))). Holds intake m) (sym next_is) holds;
+  given = subst (λ (items : List Item). Gives alone records published items [] records published) (sym gives_is)
+      (Gives-still alone records published few);
+  left_open = subst (λ (m : Option (List (List ℕ))). HasOpen intake m) (sym next_is) left_open;
 }
   where
     gives_is : gives (Some text) line ≡ []
@@ -217,21 +224,21 @@ read_more old new text line (inr want) (inl step) =
     inr (subst (λ (p : Progress). IsWant p.draft) (sym step) (want_stays (old.lines + 1) old.draft line want))
 
 -- where nothing is open nothing is owed
-pub closing_between : (alone : Bool) (records : List RecordView) (own : ℕ) → length records ≤ 256
-    → (open_text : Option (List (List ℕ))) → Holds Between open_text
-    → Closing alone records own open_text [] records own
-closing_between alone records own few None h = Gives-still alone records own few
-closing_between alone records own few (Some text) h = absurd h
+pub closing_between : (alone : Bool) (records : List RecordView) (published : ℕ) → length records ≤ MOST_RECORDS
+    → (open_text : Option (List (List ℕ))) → HasOpen Between open_text
+    → Closing alone records published open_text [] records published
+closing_between alone records published few None h = Gives-still alone records published few
+closing_between alone records published few (Some text) h = absurd h
 
 -- a text that is read is open
 pub text_open : (P : Option (List (List ℕ)) → Type 0) (reader : Reading)
-    → ((text : List (List ℕ)) → Holds (Text reader) (Some text) → P (Some text))
-    → (open_text : Option (List (List ℕ))) → Holds (Text reader) open_text → P open_text
+    → ((text : List (List ℕ)) → HasOpen (Text reader) (Some text) → P (Some text))
+    → (open_text : Option (List (List ℕ))) → HasOpen (Text reader) open_text → P open_text
 text_open P reader on None h = absurd h
 text_open P reader on (Some text) h = on text h
 
 -- and so is one that is passed over
 pub lost_open : (P : Option (List (List ℕ)) → Type 0) → ((text : List (List ℕ)) → P (Some text))
-    → (open_text : Option (List (List ℕ))) → Holds Lost open_text → P open_text
+    → (open_text : Option (List (List ℕ))) → HasOpen Lost open_text → P open_text
 lost_open P on None h = absurd h
 lost_open P on (Some text) h = on text

@@ -5,18 +5,20 @@ use Rattle.std.specs.declared.option.Option.{Option}
 use Rattle.query_lang.specs.Replies.{bye_text}
 use Rattle.query_lang.specs.Requests.{request_of}
 use Rattle.query_lang.specs.declared.request.Request.{Request}
-use Rattle.query_lang.specs.declared.request.Request.TheVariants.{Nothing, Load, Bye}
+use Rattle.query_lang.specs.declared.request.Request.TheVariants.{Nothing, Load, Cut, Path, Tree}
+use Rattle.query_lang.specs.declared.request.Request.TheVariants.{Run, Net, Weakest, Bye}
 use Rattle.query_lang.specs.declared.request.RequestFault.{RequestFault}
 use Rattle.query_lang.proofs.RequestKinds.{IsOther, answer_kind, other_asks, report-needs}
 use Rattle.session.specs.Answers.{IsReply, RepliesTo, Step, sheet_in}
 use Rattle.session.specs.Modes.{next_text, gives, Gives}
-use Rattle.session.specs.Taking.{Holds, IsTaken, IsByeTaken}
+use Rattle.session.specs.Taking.{HasOpen, IsTaken, IsByeTaken}
 use Rattle.session.specs.declared.intake.Intake.{Intake}
 use Rattle.session.proofs.Answering.{Gives-none, Gives-one, look_leads}
 use Rattle.text_forms.specs.Items.{Item, Ask, Bye as ByeItem}
 use Rattle.text_forms.specs.Words.{is_passed, is_load, is_bye}
 use Rattle.tree_versions.specs.Records.{RecordView, record_at, tree_of}
 use Rattle.tree_versions.specs.Shelves.{Looks}
+use Rattle.tree_versions.specs.declared.shelf.TheConstants.{MOST_RECORDS}
 
 -- what is replied to is answered from a record, or refused
 replied_other : (seen : Option RecordView) (version : ℕ) (answer : Result Request RequestFault) (reply : List ℕ)
@@ -26,21 +28,21 @@ replied_other None version (Ok request) reply replies = absurd replies
 replied_other (Some seen) version (Ok request) reply replies =
     report-needs version seen.sheet (tree_of seen) request reply replies
 
-module _ (alone : Bool) (old new : List RecordView) (own own2 : ℕ) (few : length new ≤ 256)
-    (looks : Looks alone old new) (kept : own2 ≡ own) (version : ℕ) (seen : Option RecordView)
+module _ (alone : Bool) (old new : List RecordView) (published published2 : ℕ) (few : length new ≤ MOST_RECORDS)
+    (looks : Looks alone old new) (kept : published2 ≡ published) (version : ℕ) (seen : Option RecordView)
     (last : version ≡ length new) (shows : seen ≡ record_at new version) (intake : Intake) (line : List ℕ) where
   -- a line that is answered from a record, or refused, was taken
-  pub asked_taken : (answer : Result Request RequestFault) (reply : List ℕ) → Holds intake None
+  pub asked_taken : (answer : Result Request RequestFault) (reply : List ℕ) → HasOpen intake None
       → answer ≡ request_of (sheet_in seen) line → RepliesTo seen version answer reply
-      → IsTaken alone old own new own2 None intake line reply
-  asked_taken answer reply holds is replies = record {
+      → IsTaken alone old published new published2 None intake line reply
+  asked_taken answer reply left_open is replies = record {
     quiet = λ none passed load. asks.2;
-    given = subst (λ (items : List Item). Gives alone old own items reply new own2) (sym gives_is)
-        (Gives-one alone old new own own2 (Ask line) reply 0 (omega (arith, kept))
-        (look_leads alone old new own own2 few looks kept
+    given = subst (λ (items : List Item). Gives alone old published items reply new published2) (sym gives_is)
+        (Gives-one alone old new published published2 (Ask line) reply 0 (omega (arith, kept))
+        (look_leads alone old new published published2 few looks kept
         (λ seen next. Step alone new seen (Ask line) reply next 0)
-        (λ seen stays. record { stays = stays; told = told; counted = refl })));
-    holds = subst (λ (text : Option (List (List ℕ))). Holds intake text) (sym next_is) holds;
+        (λ seen keeps. record { keeps = keeps; told = told; counted = refl })));
+    left_open = subst (λ (text : Option (List (List ℕ))). HasOpen intake text) (sym next_is) left_open;
   }
     where
       asks : (is_passed line ≡ false) × (is_load line ≡ false) × (is_bye line ≡ false)
@@ -60,39 +62,40 @@ module _ (alone : Bool) (old new : List RecordView) (own own2 : ℕ) (few : leng
           (subst (λ (r : Option RecordView). IsReply r version line reply) shows from_seen)
 
   -- a line that is passed over gets no reply
-  pub passed_taken : Holds intake None → Ok Nothing ≡ request_of (sheet_in seen) line
-      → IsTaken alone old own new own2 None intake line []
-  passed_taken holds is =
+  pub passed_taken : HasOpen intake None → Ok Nothing ≡ request_of (sheet_in seen) line
+      → IsTaken alone old published new published2 None intake line []
+  passed_taken left_open is =
       let passed : is_passed line ≡ true = answer_kind (sheet_in seen) line (Ok Nothing) (sym is) in
       let gives_is : gives None line ≡ [] = rw passed refl in
       let next_is : next_text None line ≡ None = rw passed refl in record {
         quiet = λ none unpassed load. absurd (let e : true ≡ false = sym passed ∙ unpassed in cc);
-        given = subst (λ (items : List Item). Gives alone old own items [] new own2) (sym gives_is)
-            (Gives-none alone old new own own2 few looks kept);
-        holds = subst (λ (text : Option (List (List ℕ))). Holds intake text) (sym next_is) holds;
+        given = subst (λ (items : List Item). Gives alone old published items [] new published2) (sym gives_is)
+            (Gives-none alone old new published published2 few looks kept);
+        left_open = subst (λ (text : Option (List (List ℕ))). HasOpen intake text) (sym next_is) left_open;
       }
 
   -- neither does one that begins a text
-  pub load_taken : Holds intake (Some []) → Ok Load ≡ request_of (sheet_in seen) line
-      → IsTaken alone old own new own2 None intake line []
-  load_taken holds is =
+  pub load_taken : HasOpen intake (Some []) → Ok Load ≡ request_of (sheet_in seen) line
+      → IsTaken alone old published new published2 None intake line []
+  load_taken left_open is =
       let k = answer_kind (sheet_in seen) line (Ok Load) (sym is) in
       let gives_is : gives None line ≡ [] = rw (k.0, k.1) refl in
       let next_is : next_text None line ≡ Some [] = rw (k.0, k.1) refl in record {
         quiet = λ none unpassed unload. absurd (let e : true ≡ false = sym k.1 ∙ unload in cc);
-        given = subst (λ (items : List Item). Gives alone old own items [] new own2) (sym gives_is)
-            (Gives-none alone old new own own2 few looks kept);
-        holds = subst (λ (text : Option (List (List ℕ))). Holds intake text) (sym next_is) holds;
+        given = subst (λ (items : List Item). Gives alone old published items [] new published2) (sym gives_is)
+            (Gives-none alone old new published published2 few looks kept);
+        left_open = subst (λ (text : Option (List (List ℕ))). HasOpen intake text) (sym next_is) left_open;
       }
 
   -- a BYE is answered
   pub bye_taken : (reply : List ℕ) → Ok Bye ≡ request_of (sheet_in seen) line → reply ≡ bye_text version
-      → IsByeTaken alone old own new own2 None line reply
+      → IsByeTaken alone old published new published2 None line reply
   bye_taken reply is text =
       let k = answer_kind (sheet_in seen) line (Ok Bye) (sym is) in record {
         between = refl;
         bye = record { passed = k.0; load = k.1; bye = k.2 };
-        given = Gives-one alone old new own own2 ByeItem reply 0 (omega (arith, kept))
-            (look_leads alone old new own own2 few looks kept (λ seen next. Step alone new seen ByeItem reply next 0)
-            (λ seen stays. record { stays = stays; told = text ∙ ap bye_text last; counted = refl }));
+        given = Gives-one alone old new published published2 ByeItem reply 0 (omega (arith, kept))
+            (look_leads alone old new published published2 few looks kept (λ seen next. Step alone new seen ByeItem
+            reply next 0)
+            (λ seen keeps. record { keeps = keeps; told = text ∙ ap bye_text last; counted = refl }));
       }

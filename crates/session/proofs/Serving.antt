@@ -12,12 +12,13 @@ use Rattle.text_forms.proofs.LinesOf.{fronts_of-line, fronts_of-open, fronts_of-
 use Rattle.tree_versions.specs.Records.{RecordView}
 
 -- nothing has come yet
-pub begin : (alone : Bool) (records : List RecordView) (own : ℕ) → Serves alone records own [] [] records own None
-begin alone records own = record {
+pub begin : (alone : Bool) (records : List RecordView) (published : ℕ) → Serves alone records published [] [] records
+    published None
+begin alone records published = record {
   done = [];
   quiet = tt;
   items = λ ended more. refl;
-  answered = serves_none alone records own;
+  answered = serves_none alone records published;
 }
 
 -- the items of a line that is no BYE, and of the lines behind it
@@ -98,8 +99,9 @@ pub ends-one : (text : Option (List (List ℕ))) → length (items_from true tex
 ends-one None = omega arith
 ends-one (Some text) = omega arith
 
-module _ (alone : Bool) (seen0 : List RecordView) (own0 : ℕ) (bytes text : List ℕ) (records : List RecordView)
-    (own : ℕ) (open_text : Option (List (List ℕ))) (s : Serves alone seen0 own0 bytes text records own open_text)
+module _ (alone : Bool) (seen0 : List RecordView) (published0 : ℕ) (bytes text : List ℕ) (records : List RecordView)
+    (published : ℕ) (open_text : Option (List (List ℕ))) (s : Serves alone seen0 published0 bytes text records
+    published open_text)
   where
     -- the items behind a whole line
     pub line_items : (ended : Bool) (line more : List ℕ) → NoFeed line → IsQuiet open_text (front_of line)
@@ -114,15 +116,17 @@ module _ (alone : Bool) (seen0 : List RecordView) (own0 : ℕ) (bytes text : Lis
         ∙ sym (append_assoc s.done (gives open_text front) (items_on ended (next_text open_text front) more))
 
     -- the session goes on by a whole line that is no BYE
-    pub goes_on : (after : List RecordView) (own2 : ℕ) (line out : List ℕ) → NoFeed line
-        → IsQuiet open_text (front_of line) → Gives alone records own (gives open_text (front_of line)) out after own2
-        → Serves alone seen0 own0 (bytes ++ (line ++ 10 ∷ [])) (text ++ out) after own2
+    pub goes_on : (after : List RecordView) (published2 : ℕ) (line out : List ℕ) → NoFeed line
+        → IsQuiet open_text (front_of line) → Gives alone records published (gives open_text (front_of line)) out
+        after published2
+        → Serves alone seen0 published0 (bytes ++ (line ++ 10 ∷ [])) (text ++ out) after published2
         (next_text open_text (front_of line))
-    goes_on after own2 line out clean quiet given = record {
+    goes_on after published2 line out clean quiet given = record {
       done = s.done ++ gives open_text (front_of line);
       quiet = NoBye-append s.done (gives open_text (front_of line)) s.quiet (gives-quiet open_text (front_of line));
       items = λ ended more. line_items ended line more clean quiet;
-      answered = IsServed-on alone seen0 own0 records after own own2 s.done (gives open_text (front_of line)) text out
+      answered = IsServed-on alone seen0 published0 records after published published2 s.done (gives open_text
+          (front_of line)) text out
           s.answered given;
     }
 
@@ -151,8 +155,8 @@ module _ (alone : Bool) (seen0 : List RecordView) (own0 : ℕ) (bytes text : Lis
         nothing None = refl
         nothing (Some t) = refl
 
-module _ (alone : Bool) (seen0 : List RecordView) (own0 : ℕ) (bytes text : List ℕ) (records : List RecordView)
-    (own : ℕ) (s : Serves alone seen0 own0 bytes text records own None) where
+module _ (alone : Bool) (seen0 : List RecordView) (published0 : ℕ) (bytes text : List ℕ) (records : List RecordView)
+    (published : ℕ) (s : Serves alone seen0 published0 bytes text records published None) where
   -- the items that a whole line BYE ends
   pub bye_items : (ended : Bool) (line more : List ℕ) → NoFeed line → IsByeLine (front_of line)
       → items_of ended (bytes ++ (line ++ 10 ∷ more)) ≡ s.done ++ Bye ∷ []

@@ -1,5 +1,5 @@
 -- What a turn does to a session so far.
-use Rattle.std.proofs.Common.{◌≡◌, ℕ, ◌^◌, ◌<◌, List, [], ◌∷◌, ◌++◌, length, take, None, Some, Ok, Err, Result}
+use Rattle.std.proofs.Common.{◌≡◌, ℕ, ◌^◌, ◌<◌, ◌≤◌, List, [], ◌∷◌, ◌++◌, length, take, None, Some, Ok, Err, Result}
 use Rattle.std.proofs.Common.{Bool, false, refl, sym, ap, ◌∙◌, arith, subst, inl, inr, ◌⊎◌, MatchResult}
 use Rattle.std.proofs.KnownBytes.{Appends-trans, Appends-nil}
 use Rattle.std.specs.declared.option.Option.{Option}
@@ -9,7 +9,7 @@ use Rattle.line_reader.specs.Ends.{IsOver}
 use Rattle.line_reader.specs.Passing.{Goes, Passes}
 use Rattle.session.specs.Modes.{next_text, Gives}
 use Rattle.session.specs.Sessions.{SoFar, Breaks, EndsWhole, EndsShort, EndsLong, IsCutShort, IsTooLong}
-use Rattle.session.specs.Taking.{Holds}
+use Rattle.session.specs.Taking.{HasOpen}
 use Rattle.session.specs.Turns.{IsAnswered, IsBegun, IsByeAnswered, IsByeBegun, Closed, GoesOn}
 use Rattle.session.specs.declared.intake.Intake.{Intake}
 use Rattle.session.proofs.Serving.{begin}
@@ -20,16 +20,16 @@ use Rattle.text_forms.specs.Lines.{NoFeed, front_of}
 use Rattle.tree_versions.specs.Records.{RecordView}
 
 -- at the start nothing was taken or written
-pub start : (alone : Bool) (records : List RecordView) (own : ℕ) (left written : Option (List ℕ)) (held : Buffered)
-    (ended : Bool) (intake : Intake) → held.bytes ≡ [] → held.taken ≡ 0 → Holds intake None
-    → GoesOn alone records own left written held left ended written records own intake
-start alone records own left written held ended intake fresh none between = record {
+pub start : (alone : Bool) (records : List RecordView) (published : ℕ) (left written : Option (List ℕ)) (held : Buffered)
+    (ended : Bool) (intake : Intake) → held.bytes ≡ [] → held.taken ≡ 0 → HasOpen intake None
+    → GoesOn alone records published left written held left ended written records published intake
+start alone records published left written held ended intake fresh none between = record {
   open_text = None;
-  holds = between;
+  left_open = between;
   so_far = record {
     bytes = [];
     text = [];
-    serves = begin alone records own;
+    serves = begin alone records published;
     gone = subst (λ (bytes : List ℕ). Consumes left (prepend_known bytes left) []) (sym fresh) (nothing left);
     count = omega (arith, none, ap length fresh);
     unmet = inl none;
@@ -46,140 +46,160 @@ pub unmet_at : (held : Buffered) (ended : Bool) → 0 < held.taken → IsOpen he
 unmet_at held ended some (inl none) = absurd (omega arith)
 unmet_at held ended some (inr unmet) = unmet
 
-module _ (alone : Bool) (seen0 : List RecordView) (own0 : ℕ)
+module _ (alone : Bool) (seen0 : List RecordView) (published0 : ℕ)
     (left0 written0 left after_left before now : Option (List ℕ)) (ended met : Bool) (held held2 : Buffered)
-    (records after : List RecordView) (own own2 : ℕ) (intake next : Intake)
-    (g : GoesOn alone seen0 own0 left0 written0 held left ended before records own intake) where
+    (records after : List RecordView) (published published2 : ℕ) (intake next : Intake)
+    (g : GoesOn alone seen0 published0 left0 written0 held left ended before records published intake)
+    (most : held2.taken ≤ 2 ^ 30) where
   -- between two items a session so far has no open text
-  between : g.open_text ≡ None → SoFar alone seen0 own0 left0 written0 held left ended before records own None
-  between none = subst (λ (m : Option (List (List ℕ))). SoFar alone seen0 own0 left0 written0 held left ended before
-      records own m) none
+  between : g.open_text ≡ None → SoFar alone seen0 published0 left0 written0 held left ended before records published
+      None
+  between none = subst (λ (m : Option (List (List ℕ))). SoFar alone seen0 published0 left0 written0 held left ended
+      before
+      records published m) none
       g.so_far
 
   -- a whole line was answered
   pub line_answered : (line front : List ℕ) → NoFeed line → Goes held left held2 after_left (line ++ 10 ∷ [])
       → front ≡ front_of line
-      → (IsOpen held ended → IsOpen held2 met) → IsAnswered alone records own after own2 g.open_text next front
+      → (IsOpen held ended → IsOpen held2 met) → IsAnswered alone records published after published2 g.open_text next
+      front
       before now
-      → GoesOn alone seen0 own0 left0 written0 held2 after_left met now after own2 next
+      → GoesOn alone seen0 published0 left0 written0 held2 after_left met now after published2 next
   line_answered line front clean goes is opens a = record {
     open_text = next_text g.open_text front;
-    holds = a.taken.holds;
-    so_far = whole_line alone seen0 own0 left0 written0 left before now after_left ended met held held2 records after
-        own own2 g.open_text
-        g.so_far
+    left_open = a.taken.left_open;
+    so_far = whole_line alone seen0 published0 left0 written0 left before now after_left ended met held held2 records
+        after
+        published published2 g.open_text
+        g.so_far most
         line front a.text clean goes is opens a.taken.quiet a.taken.given a.wrote;
   }
 
   -- a whole line BYE was answered
   pub bye_answered : (line front : List ℕ) → NoFeed line → Goes held left held2 after_left (line ++ 10 ∷ [])
       → front ≡ front_of line
-      → IsByeAnswered alone records own after own2 g.open_text front before now
-      → EndsWhole left0 written0 after_left met now alone seen0 own0 after own2
+      → IsByeAnswered alone records published after published2 g.open_text front before now
+      → EndsWhole left0 written0 after_left met now alone seen0 published0 after published2
   bye_answered line front clean goes is a =
-      bye_ends alone seen0 own0 left0 written0 left before now after_left ended met held held2 records after own own2
-      a.text (between a.between) a.given
+      bye_ends alone seen0 published0 left0 written0 left before now after_left ended met held held2 records after
+      published published2
+      a.text (between a.between) a.given most
       line front clean goes is a.bye a.wrote
 
   -- the reply to a whole line was begun
   pub line_begun : (line front : List ℕ) → NoFeed line → Goes held left held2 after_left (line ++ 10 ∷ [])
       → front ≡ front_of line
-      → IsBegun alone records own after own2 g.open_text next front before now ⊎ IsByeBegun alone records own after
-      own2 g.open_text front before now
-      → Breaks left0 written0 after_left met now alone seen0 own0 after own2
+      → IsBegun alone records published after published2 g.open_text next front before now ⊎ IsByeBegun alone records
+      published after
+      published2 g.open_text front before now
+      → Breaks left0 written0 after_left met now alone seen0 published0 after published2
   line_begun line front clean goes is (inl a) =
-      whole_line_breaks alone seen0 own0 left0 written0 left before now after_left ended met held held2 records after
-      own own2 g.open_text
-      g.so_far
+      whole_line_breaks alone seen0 published0 left0 written0 left before now after_left ended met held held2 records
+      after
+      published published2 g.open_text
+      g.so_far most
       line front a.text a.count clean goes is a.taken.quiet a.taken.given a.wrote
   line_begun line front clean goes is (inr a) =
-      bye_breaks alone seen0 own0 left0 written0 left before now after_left ended met held held2 records after own
-      own2
-      a.text (between a.between) a.given
+      bye_breaks alone seen0 published0 left0 written0 left before now after_left ended met held held2 records after
+      published
+      published2
+      a.text (between a.between) a.given most
       line front a.count clean goes is a.bye a.wrote
 
   -- a BYE without a line feed was answered
   pub last_bye_answered : (line front : List ℕ) → Passes held left held2 after_left line → 0 < length line
       → front ≡ front_of line
-      → IsOver met after_left → IsByeAnswered alone records own after own2 g.open_text front before now
-      → EndsWhole left0 written0 after_left met now alone seen0 own0 after own2
+      → IsOver met after_left → IsByeAnswered alone records published after published2 g.open_text front before now
+      → EndsWhole left0 written0 after_left met now alone seen0 published0 after published2
   last_bye_answered line front passes some is over a =
-      last_bye_ends alone seen0 own0 left0 written0 left before now after_left ended met held held2 records after
-      own own2
-      a.text (between a.between) a.given
+      last_bye_ends alone seen0 published0 left0 written0 left before now after_left ended met held held2 records after
+      published published2
+      a.text (between a.between) a.given most
       line front passes some is over a.bye a.wrote
 
   -- the reply to a line without a line feed was begun
   pub last_begun : (line front : List ℕ) → Passes held left held2 after_left line → 0 < length line
       → front ≡ front_of line
       → IsOver met after_left
-      → IsBegun alone records own after own2 g.open_text next front before now ⊎ IsByeBegun alone records own after
-      own2 g.open_text front before now
-      → Breaks left0 written0 after_left met now alone seen0 own0 after own2
+      → IsBegun alone records published after published2 g.open_text next front before now ⊎ IsByeBegun alone records
+      published after
+      published2 g.open_text front before now
+      → Breaks left0 written0 after_left met now alone seen0 published0 after published2
   last_begun line front passes some is over (inl a) =
-      last_line_breaks alone seen0 own0 left0 written0 left before now after_left ended met held held2 records after
-      own own2 g.open_text
-      g.so_far
+      last_line_breaks alone seen0 published0 left0 written0 left before now after_left ended met held held2 records
+      after
+      published published2 g.open_text
+      g.so_far most
       line front a.text a.count passes some is over a.taken.quiet a.taken.given a.wrote
   last_begun line front passes some is over (inr a) =
-      last_bye_breaks alone seen0 own0 left0 written0 left before now after_left ended met held held2 records after
-      own
-      own2 a.text (between a.between) a.given line front a.count passes some is over a.bye a.wrote
+      last_bye_breaks alone seen0 published0 left0 written0 left before now after_left ended met held held2 records
+      after
+      published
+      published2 a.text (between a.between) a.given most line front a.count passes some is over a.bye a.wrote
 
   -- a line without a line feed was answered, and what is owed behind it was written, or begun
   pub last_closed : {E : Type 0} (r : Result (Unit {0}) E) (then : Option (List ℕ)) (final : List RecordView)
       (own3 : ℕ) (line front : List ℕ)
       → Passes held left held2 after_left line → 0 < length line → front ≡ front_of line → IsOver met after_left
-      → (a : IsAnswered alone records own after own2 g.open_text next front before now)
-      → Closed alone after own2 final own3 (next_text g.open_text front) now then r
-      → MatchResult r (λ _. EndsWhole left0 written0 after_left met then alone seen0 own0 final own3)
-      (λ _. Breaks left0 written0 after_left met then alone seen0 own0 final own3)
+      → (a : IsAnswered alone records published after published2 g.open_text next front before now)
+      → Closed alone after published2 final own3 (next_text g.open_text front) now then r
+      → MatchResult r (λ _. EndsWhole left0 written0 after_left met then alone seen0 published0 final own3)
+      (λ _. Breaks left0 written0 after_left met then alone seen0 published0 final own3)
   last_closed (Ok u) then final own3 line front passes some is over a c =
-      last_line_ends alone seen0 own0 left0 written0 left before then after_left ended met held held2 records final
-      own own3 g.open_text g.so_far after own2 line front a.text c.owed passes some is over a.taken.quiet
+      last_line_ends alone seen0 published0 left0 written0 left before then after_left ended met held held2 records
+      final
+      published own3 g.open_text g.so_far most after published2 line front a.text c.owed passes some is over
+      a.taken.quiet
       a.taken.given
       c.closing (Appends-trans before now then a.text c.owed a.wrote c.wrote)
   last_closed (Err e) then final own3 line front passes some is over a c =
-      closing_breaks alone seen0 own0 left0 written0 left before then after_left ended met held held2 records final
-      own own3 g.open_text g.so_far after own2 line front a.text c.owed c.wrote.0 passes some is over a.taken.quiet
+      closing_breaks alone seen0 published0 left0 written0 left before then after_left ended met held held2 records
+      final
+      published own3 g.open_text g.so_far most after published2 line front a.text c.owed c.wrote.0 passes some is over
+      a.taken.quiet
       a.taken.given c.closing (Appends-trans before now then a.text (take c.wrote.0 c.owed) a.wrote c.wrote.1)
 
   -- the input ended between two lines, and what is owed then was written
   pub end_closed : {E : Type 0} (result : Result (Unit {0}) E) (done : Unit {0})
       → Passes held left held2 after_left []
       → IsOver met after_left → result ≡ Ok done
-      → Closed alone records own after own2 g.open_text before now result
-      → EndsWhole left0 written0 after_left met now alone seen0 own0 after own2
+      → Closed alone records published after published2 g.open_text before now result
+      → EndsWhole left0 written0 after_left met now alone seen0 published0 after published2
   end_closed (Err e) done passes over ok c = absurd (cc)
   end_closed (Ok u) done passes over ok c =
-      end_whole alone seen0 own0 left0 written0 left before now after_left ended met held held2 records after own own2
-      g.open_text g.so_far c.owed passes over c.closing c.wrote
+      end_whole alone seen0 published0 left0 written0 left before now after_left ended met held held2 records after
+      published published2
+      g.open_text g.so_far most c.owed passes over c.closing c.wrote
 
   -- and only a front of it was written
   pub end_begun : {E : Type 0} (result : Result (Unit {0}) E) (fault : E) → Passes held left held2 after_left []
       → IsOver met after_left → result ≡ Err fault
-      → Closed alone records own after own2 g.open_text before now result
-      → Breaks left0 written0 after_left met now alone seen0 own0 after own2
+      → Closed alone records published after published2 g.open_text before now result
+      → Breaks left0 written0 after_left met now alone seen0 published0 after published2
   end_begun (Ok u) fault passes over err c = absurd (cc)
   end_begun (Err e) fault passes over err c =
-      end_breaks alone seen0 own0 left0 written0 left before now after_left ended met held held2 records after own
-      own2
-      g.open_text g.so_far c.owed c.wrote.0 passes over c.closing c.wrote.1
+      end_breaks alone seen0 published0 left0 written0 left before now after_left ended met held held2 records after
+      published
+      published2
+      g.open_text g.so_far most c.owed c.wrote.0 passes over c.closing c.wrote.1
 
   -- the source failed
   pub failed : (line : List ℕ) → Passes held left held2 after_left line → met ≡ false → held2.taken < 2 ^ 30
-      → Appends before now [] → Gives alone records own [] [] after own2
-      → EndsShort left0 written0 after_left met now alone seen0 own0 after own2
+      → Appends before now [] → Gives alone records published [] [] after published2
+      → EndsShort left0 written0 after_left met now alone seen0 published0 after published2
   failed line passes unmet few wrote given =
-      stops alone seen0 own0 left0 written0 left before now after_left ended met held held2 records after own own2
-      g.open_text g.so_far (IsCutShort met) line passes unmet wrote given
+      stops alone seen0 published0 left0 written0 left before now after_left ended met held held2 records after
+      published published2
+      g.open_text g.so_far most (IsCutShort met) line passes unmet wrote given
       (λ count quiet. (omega (arith, count), unmet, quiet))
 
   -- as many bytes were taken as may be
   pub spent : (line : List ℕ) → Passes held left held2 after_left line → met ≡ false → held2.taken ≡ 2 ^ 30
-      → Appends before now [] → Gives alone records own [] [] after own2
-      → EndsLong left0 written0 after_left met now alone seen0 own0 after own2
+      → Appends before now [] → Gives alone records published [] [] after published2
+      → EndsLong left0 written0 after_left met now alone seen0 published0 after published2
   spent line passes unmet all wrote given =
-      stops alone seen0 own0 left0 written0 left before now after_left ended met held held2 records after own own2
-      g.open_text g.so_far (IsTooLong met) line passes unmet wrote given
+      stops alone seen0 published0 left0 written0 left before now after_left ended met held held2 records after
+      published published2
+      g.open_text g.so_far most (IsTooLong met) line passes unmet wrote given
       (λ count quiet. (count ∙ all, unmet, quiet))

@@ -13,6 +13,7 @@ use Rattle.query_lang.specs.declared.request.Request.{Request}
 use Rattle.query_lang.specs.declared.request.RequestFault.{RequestFault}
 use Rattle.text_forms.specs.Items.{Item, Ask, Load, Bye}
 use Rattle.tree_versions.specs.Records.{RecordView, record_at, tree_of}
+use Rattle.tree_versions.specs.declared.shelf.TheConstants.{MOST_RECORDS}
 
 -- the reply to a request line: its refusal, or what the record of the version answers
 abbrev pub RepliesTo : Option RecordView → ℕ → Result Request RequestFault → List ℕ → Type 0
@@ -36,7 +37,7 @@ IsTextRefusal version fault reply =
 
 -- The version of a reply that publishes nothing: none older than was seen, of a record that is there, and where
 -- nobody else publishes the one that was seen.
-pub record Stays (alone : Bool) (records : List RecordView) (seen next : ℕ) : Type 0 where
+pub record KeepsVersion (alone : Bool) (records : List RecordView) (seen next : ℕ) : Type 0 where
   pub later : seen ≤ next
   pub there : next ≤ length records
   pub same : alone ≡ true → next ≡ seen
@@ -56,16 +57,16 @@ pub record IsLoaded (alone : Bool) (records : List RecordView) (seen : ℕ) (she
 -- No record can be added to 256.
 pub record IsRefusedFull (alone : Bool) (records : List RecordView) (seen : ℕ) (reply : List ℕ) (next loads : ℕ) :
     Type 0 where
-  pub full : length records ≡ 256
-  pub all : next ≡ 256
+  pub full : length records ≡ MOST_RECORDS
+  pub all : next ≡ MOST_RECORDS
   pub later : seen ≤ next
-  pub text : reply ≡ refused_text 256 20 None
-  pub same : alone ≡ true → seen ≡ 256
+  pub text : reply ≡ refused_text MOST_RECORDS 20 None
+  pub same : alone ≡ true → seen ≡ MOST_RECORDS
   pub counted : loads ≡ 0
 
 -- Nothing was published, and the reply is as told.
 pub record IsTold (alone : Bool) (records : List RecordView) (seen next loads : ℕ) (told_so : Type 0) : Type 0 where
-  pub stays : Stays alone records seen next
+  pub keeps : KeepsVersion alone records seen next
   pub told : told_so
   pub counted : loads ≡ 0
 

@@ -8,6 +8,7 @@ use Rattle.session.specs.Answers.{Answers, LoadStep}
 use Rattle.text_forms.specs.Items.{Item, Ask, Load, NoBye, items_from, items_on, items_of}
 use Rattle.text_forms.specs.Words.{is_passed, is_load, is_end, is_bye}
 use Rattle.tree_versions.specs.Records.{RecordView, Grows}
+use Rattle.tree_versions.specs.declared.shelf.TheConstants.{MOST_RECORDS}
 
 -- the text that is open after a line which is no BYE
 abbrev pub next_text : Option (List (List ℕ)) → List ℕ → Option (List (List ℕ))
@@ -25,55 +26,57 @@ pub record IsReached (alone : Bool) (records : List RecordView) (version : ℕ) 
   pub last : alone ≡ true → version ≡ length records
 
 -- P holds of a version that replies may have come to.
-pub record Reaches (alone : Bool) (records : List RecordView) (P : ℕ → Type 0) : Type 0 where
+pub record AtSomeVersion (alone : Bool) (records : List RecordView) (P : ℕ → Type 0) : Type 0 where
   pub last : ℕ
   pub reached : IsReached alone records last
-  pub holds : P last
+  pub fact : P last
 
 -- The records grew, and P leads on from each version that replies may have come to before.
-pub record Leads (alone : Bool) (old new : List RecordView) (P : ℕ → ℕ → Type 0) : Type 0 where
+pub record LeadsOn (alone : Bool) (old new : List RecordView) (P : ℕ → ℕ → Type 0) : Type 0 where
   pub grows : Grows old new
-  pub few : length new ≤ 256
-  pub on : (seen : ℕ) → IsReached alone old seen → Reaches alone new (P seen)
+  pub few : length new ≤ MOST_RECORDS
+  pub on : (seen : ℕ) → IsReached alone old seen → AtSomeVersion alone new (P seen)
 
 -- The items are answered by the text, which leads from these records to those, and the number of records that were
 -- published grew by the accepted LOADs.
-pub record Gives (alone : Bool) (old : List RecordView) (own : ℕ) (items : List Item) (text : List ℕ)
-    (new : List RecordView) (own2 : ℕ) : Type 0 where
+pub record Gives (alone : Bool) (old : List RecordView) (published : ℕ) (items : List Item) (text : List ℕ)
+    (new : List RecordView) (published2 : ℕ) : Type 0 where
   pub loads : ℕ
-  pub counted : own2 ≡ own + loads
-  pub leads : Leads alone old new (λ seen next. Answers alone new seen items text next loads)
+  pub counted : published2 ≡ published + loads
+  pub leads : LeadsOn alone old new (λ seen next. Answers alone new seen items text next loads)
 
 -- A network with this verdict was loaded, and this is the reply.
-pub record Loads (alone : Bool) (old : List RecordView) (own : ℕ) (verdict : Result SheetView TextFault)
-    (reply : List ℕ) (new : List RecordView) (own2 : ℕ) : Type 0 where
+pub record Loads (alone : Bool) (old : List RecordView) (published : ℕ) (verdict : Result SheetView TextFault)
+    (reply : List ℕ) (new : List RecordView) (published2 : ℕ) : Type 0 where
   pub loads : ℕ
-  pub counted : own2 ≡ own + loads
-  pub leads : Leads alone old new (λ seen next. LoadStep alone new seen verdict reply next loads)
+  pub counted : published2 ≡ published + loads
+  pub leads : LeadsOn alone old new (λ seen next. LoadStep alone new seen verdict reply next loads)
 
 -- The records begin with those that were seen at the start, the text answers the items from their last version on, and
 -- the number of records that were published grew by the accepted LOADs.
-pub record IsServed (alone : Bool) (seen0 : List RecordView) (own0 : ℕ) (records : List RecordView) (own : ℕ)
+pub record IsServed (alone : Bool) (seen0 : List RecordView) (published0 : ℕ) (records : List RecordView)
+    (published : ℕ)
     (items : List Item)
     (text : List ℕ) : Type 0 where
   pub loads : ℕ
   pub grows : Grows seen0 records
-  pub counted : own ≡ own0 + loads
-  pub answers : Reaches alone records (λ last. Answers alone records (length seen0) items text last loads)
+  pub counted : published ≡ published0 + loads
+  pub answers : AtSomeVersion alone records (λ last. Answers alone records (length seen0) items text last loads)
 
 -- The bytes were answered by the text, up to a text that is open. Whatever bytes come, the whole items are those
 -- that are done and then those from here on.
-pub record Serves (alone : Bool) (seen0 : List RecordView) (own0 : ℕ) (bytes text : List ℕ)
-    (records : List RecordView) (own : ℕ)
+pub record Serves (alone : Bool) (seen0 : List RecordView) (published0 : ℕ) (bytes text : List ℕ)
+    (records : List RecordView) (published : ℕ)
     (open_text : Option (List (List ℕ))) : Type 0 where
   pub done : List Item
   pub quiet : NoBye done
   pub items : (ended : Bool) (more : List ℕ) → items_of ended (bytes ++ more) ≡ done ++ items_on ended open_text more
-  pub answered : IsServed alone seen0 own0 records own done text
+  pub answered : IsServed alone seen0 published0 records published done text
 
 -- what is owed where the input ends: the refusal of a text that is open
 abbrev pub Closing : Bool → List RecordView → ℕ → Option (List (List ℕ)) → List ℕ → List RecordView → ℕ → Type 0
-Closing alone old own open_text owed new own2 = Gives alone old own (items_from true open_text []) owed new own2
+Closing alone old published open_text owed new published2 = Gives alone old published (items_from true open_text [])
+    owed new published2
 
 -- a line that is no BYE between items
 abbrev pub IsQuiet : Option (List (List ℕ)) → List ℕ → Type 0

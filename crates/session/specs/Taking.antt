@@ -29,34 +29,34 @@ lines_in Lost = 0
 
 -- the text that is open: none between two items, and else its lines so far, which a reader has read or which are
 -- passed over for want of memory
-abbrev pub Holds : Intake → Option (List (List ℕ)) → Type 0
-Holds Between None = Unit {0}
-Holds Between (Some text) = ⊥
-Holds (Text reader) None = ⊥
-Holds (Text reader) (Some text) = HasRead reader.progress text
-Holds Lost None = ⊥
-Holds Lost (Some text) = Unit {0}
+abbrev pub HasOpen : Intake → Option (List (List ℕ)) → Type 0
+HasOpen Between None = Unit {0}
+HasOpen Between (Some text) = ⊥
+HasOpen (Text reader) None = ⊥
+HasOpen (Text reader) (Some text) = HasRead reader.progress text
+HasOpen Lost None = ⊥
+HasOpen Lost (Some text) = Unit {0}
 
 -- a line that is no BYE was taken: the items that it makes whole are answered by the text, from these records to those
-pub record IsTaken (alone : Bool) (old : List RecordView) (own : ℕ) (new : List RecordView) (own2 : ℕ)
+pub record IsTaken (alone : Bool) (old : List RecordView) (published : ℕ) (new : List RecordView) (published2 : ℕ)
     (open_text : Option (List (List ℕ))) (intake : Intake) (line text : List ℕ) : Type 0 where
   pub quiet : IsQuiet open_text line
-  pub given : Gives alone old own (gives open_text line) text new own2
-  pub holds : Holds intake (next_text open_text line)
+  pub given : Gives alone old published (gives open_text line) text new published2
+  pub left_open : HasOpen intake (next_text open_text line)
 
 -- a BYE was taken between two items, and this is its reply
-pub record IsByeTaken (alone : Bool) (old : List RecordView) (own : ℕ) (new : List RecordView) (own2 : ℕ)
+pub record IsByeTaken (alone : Bool) (old : List RecordView) (published : ℕ) (new : List RecordView) (published2 : ℕ)
     (open_text : Option (List (List ℕ))) (line reply : List ℕ) : Type 0 where
   pub between : open_text ≡ None
   pub bye : IsByeLine line
-  pub given : Gives alone old own (ByeItem ∷ []) reply new own2
+  pub given : Gives alone old published (ByeItem ∷ []) reply new published2
 
 -- what a line led to, and the reply that was made
 abbrev pub LineTaken : Bool → List RecordView → ℕ → List RecordView → ℕ → Option (List (List ℕ)) → Intake → List ℕ
     → List ℕ → Taken → Type 0
-LineTaken alone old own new own2 open_text intake line reply Silent =
-    IsTaken alone old own new own2 open_text intake line []
-LineTaken alone old own new own2 open_text intake line reply Reply =
-    IsTaken alone old own new own2 open_text intake line reply
-LineTaken alone old own new own2 open_text intake line reply Bye =
-    IsByeTaken alone old own new own2 open_text line reply
+LineTaken alone old published new published2 open_text intake line reply Silent =
+    IsTaken alone old published new published2 open_text intake line []
+LineTaken alone old published new published2 open_text intake line reply Reply =
+    IsTaken alone old published new published2 open_text intake line reply
+LineTaken alone old published new published2 open_text intake line reply Bye =
+    IsByeTaken alone old published new published2 open_text line reply

@@ -2,6 +2,7 @@
 ghost use Rattle.std.specs.Prelude.{◌≡◌, ◌≢◌, ◌||◌, ◌==◌, ℕ, [], false, IfOk};
 ghost use Rattle.std.specs.Arc.{arc_value};
 ghost use Rattle.cut_model.specs.Terminals.{IsTerminal, root_of};
+ghost use Rattle.cut_model.specs.declared.network.TheConstants.{MOST_LINKS, MOST_ROUTERS};
 ghost use Rattle.session.specs.Building.{IsBuiltTo};
 ghost use Rattle.tree_state.specs.History.{entered, AllEntered};
 
@@ -14,12 +15,12 @@ use tree_state::{Finished, Growing};
 
 /// Commits a router by a least cut from the one above it, in the network that the desk holds.
 fn commit(desk: &mut FlowDesk, grow: &mut Growing, net: &Network, router: u32)
-    requires held { desk.old.net ≡ net.now }
+    requires loaded { desk.old.net ≡ net.now }
     requires net { grow.old.net ≡ net.now }
     requires terminal { IsTerminal net.now router }
     requires not_root { router ≢ root_of net.now }
     requires fresh { entered grow.old.history router ≡ false }
-    ensures held { desk.new.net ≡ desk.old.net }
+    ensures loaded { desk.new.net ≡ desk.old.net }
     ensures room { desk.new.room ≡ desk.old.room }
     ensures net { grow.new.net ≡ grow.old.net }
     ensures entered { (r : ℕ) → entered grow.new.history r ≡ (entered grow.old.history r || (r == router)) }
@@ -32,7 +33,7 @@ fn commit(desk: &mut FlowDesk, grow: &mut Growing, net: &Network, router: u32)
 
 /// Commits each terminal but the root, in the order of their numbers.
 fn commit_all(desk: &mut FlowDesk, grow: &mut Growing, net: &Network)
-    requires held { desk.old.net ≡ net.now }
+    requires loaded { desk.old.net ≡ net.now }
     requires net { grow.old.net ≡ net.now }
     requires none { grow.old.history ≡ [] }
     ensures room { desk.new.room ≡ desk.old.room }
@@ -57,7 +58,7 @@ pub fn build_tree(
     desk: &mut FlowDesk,
     net: &Arc<Network>,
 ) -> Result<Finished, NoMemory>
-    requires room { desk.old.room ≡ record { routers = 1024; links = 8192 } }
+    requires room { desk.old.room ≡ record { routers = MOST_ROUTERS; links = MOST_LINKS } }
     ensures net { IfOk result (λ finished. finished.tree.net ≡ arc_value net.now) }
     ensures room { desk.new.room ≡ desk.old.room }
 {

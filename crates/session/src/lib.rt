@@ -12,4 +12,4 @@ mod session;
 mod state;
 
 pub use serve::SessionEnd;
-pub use session::{Session, serve_session};
+pub use session::{MOST_WORKERS, Session, serve_session};

@@ -6,7 +6,7 @@ ghost use Rattle.line_reader.specs.Passing.{Passes, Reads};
 ghost use Rattle.line_reader.specs.Buffered.{Buffered, IsOpen};
 ghost use Rattle.line_reader.specs.Ends.{IsOver};
 ghost use Rattle.session.specs.Sessions.{Breaks, EndsWhole};
-ghost use Rattle.session.specs.Taking.{Holds, lines_in};
+ghost use Rattle.session.specs.Taking.{HasOpen, lines_in};
 ghost use Rattle.session.specs.Turns.{Closed, EndsAs, GoesOn, LineAnswered, TurnGives};
 ghost use Rattle.text_forms.specs.Lines.{front_of};
 ghost use Rattle.tree_versions.specs.Records.{RecordView};
@@ -73,7 +73,7 @@ fn answer_line<H: Shelf, P: Peer>(
     peer: &mut P,
 ) -> Result<bool, Failed>
     requires few { lines_in state.old.intake < 2 ^ 31 }
-    ensures answered { (open_text : Option (List (List ℕ))) → Holds state.old.intake open_text
+    ensures answered { (open_text : Option (List (List ℕ))) → HasOpen state.old.intake open_text
         → LineAnswered (H.alone shelf.old) (H.seen shelf.old) (H.published shelf.old) (H.seen shelf.new) (H.published shelf.new)
         open_text state.new.intake line.now (P.written peer.old) (P.written peer.new) result }
     ensures lines { lines_in state.new.intake ≤ lines_in state.old.intake + 1 }
@@ -86,14 +86,14 @@ fn answer_line<H: Shelf, P: Peer>(
 {
     match state.take_line(alloc, shelf, line) {
         Taken::Silent => Ok(false),
-        Taken::Reply => match put_reply(state, peer) {
-            Ok(()) => Ok(false),
-            Err(fault) => Err(fault),
-        },
-        Taken::Bye => match put_reply(state, peer) {
-            Ok(()) => Ok(true),
-            Err(fault) => Err(fault),
-        },
+        Taken::Reply => {
+            put_reply(state, peer)?;
+            Ok(false)
+        }
+        Taken::Bye => {
+            put_reply(state, peer)?;
+            Ok(true)
+        }
     }
 }
 
@@ -104,7 +104,7 @@ fn close_input<H: Shelf, P: Peer>(
     peer: &mut P,
 ) -> Result<(), Failed>
     requires few { lines_in state.old.intake < 2 ^ 31 }
-    ensures closed { (open_text : Option (List (List ℕ))) → Holds state.old.intake open_text
+    ensures closed { (open_text : Option (List (List ℕ))) → HasOpen state.old.intake open_text
         → Closed (H.alone shelf.old) (H.seen shelf.old) (H.published shelf.old) (H.seen shelf.new) (H.published shelf.new)
         open_text (P.written peer.old) (P.written peer.new) result }
     ensures alone { H.alone shelf.new ≡ H.alone shelf.old }
@@ -130,16 +130,17 @@ fn answer_last<H: Shelf, P: Peer>(
     peer: &mut P,
 ) -> Result<(), Failed>
     requires few { lines_in state.old.intake + 1 < 2 ^ 31 }
-    ensures ends { (seen0 : List RecordView) (own0 : ℕ) (left0 written0 left after : Option (List ℕ))
+    ensures ends { (seen0 : List RecordView) (published0 : ℕ) (left0 written0 left after : Option (List ℕ))
         (held held2 : Buffered)
         (ended met : Bool) (l : List ℕ)
-        → GoesOn (H.alone shelf.old) seen0 own0 left0 written0 held left ended (P.written peer.old)
+        → GoesOn (H.alone shelf.old) seen0 published0 left0 written0 held left ended (P.written peer.old)
         (H.seen shelf.old) (H.published shelf.old) state.old.intake
-        → Passes held left held2 after l → 0 < length l → line.now ≡ front_of l → IsOver met after
+        → held2.taken ≤ 2 ^ 30 → Passes held left held2 after l → 0 < length l
+        → line.now ≡ front_of l → IsOver met after
         → MatchResult result
-        (λ _. EndsWhole left0 written0 after met (P.written peer.new) (H.alone shelf.old) seen0 own0
+        (λ _. EndsWhole left0 written0 after met (P.written peer.new) (H.alone shelf.old) seen0 published0
         (H.seen shelf.new) (H.published shelf.new))
-        (λ _. Breaks left0 written0 after met (P.written peer.new) (H.alone shelf.old) seen0 own0
+        (λ _. Breaks left0 written0 after met (P.written peer.new) (H.alone shelf.old) seen0 published0
         (H.seen shelf.new) (H.published shelf.new)) }
     ensures alone { H.alone shelf.new ≡ H.alone shelf.old }
     ensures cause { HasCause (P.write_faults peer.old) (P.write_faults peer.new) result }
@@ -148,10 +149,10 @@ fn answer_last<H: Shelf, P: Peer>(
     ensures faults { P.read_faults peer.new ≡ P.read_faults peer.old }
     ensures beside { P.beside_peer peer.new ≡ P.beside_peer peer.old }
 {
-    match answer_line(alloc, state, shelf, line, peer) {
-        Ok(true) => Ok(()),
-        Ok(false) => close_input(state, shelf, peer),
-        Err(fault) => Err(fault),
+    if answer_line(alloc, state, shelf, line, peer)? {
+        Ok(())
+    } else {
+        close_input(state, shelf, peer)
     }
 }
 
@@ -166,10 +167,10 @@ fn turn<H: Shelf, P: Peer>(
 ) -> Option<SessionEnd>
     requires budget { reader.old.taken ≤ 2 ^ 30 }
     requires counted { lines_in state.old.intake + length reader.old.bytes ≤ reader.old.taken }
-    ensures gives { (seen0 : List RecordView) (own0 : ℕ) (left0 written0 : Option (List ℕ))
-        → GoesOn (H.alone shelf.old) seen0 own0 left0 written0 reader.old (P.left peer.old) (P.ended peer.old)
+    ensures gives { (seen0 : List RecordView) (published0 : ℕ) (left0 written0 : Option (List ℕ))
+        → GoesOn (H.alone shelf.old) seen0 published0 left0 written0 reader.old (P.left peer.old) (P.ended peer.old)
         (P.written peer.old) (H.seen shelf.old) (H.published shelf.old) state.old.intake
-        → TurnGives (H.alone shelf.old) seen0 own0 left0 written0 reader.new (P.left peer.new) (P.ended peer.new)
+        → TurnGives (H.alone shelf.old) seen0 published0 left0 written0 reader.new (P.left peer.new) (P.ended peer.new)
         (P.written peer.new) (H.seen shelf.new) (H.published shelf.new) state.new.intake result }
     ensures alone { H.alone shelf.new ≡ H.alone shelf.old }
     ensures read_fault { result ≡ Some SessionEnd.ReadFault → Rose (P.read_faults peer.old) (P.read_faults peer.new) }
@@ -213,7 +214,7 @@ pub fn serve<H: Shelf, P: Peer>(
 ) -> SessionEnd
     requires fresh { reader.old.bytes ≡ [] }
     requires none_taken { reader.old.taken ≡ 0 }
-    requires between { Holds state.old.intake None }
+    requires between { HasOpen state.old.intake None }
     requires no_line { lines_in state.old.intake ≡ 0 }
     ensures ends { EndsAs result (P.left peer.old) (P.written peer.old) (P.left peer.new) (P.ended peer.new)
         (P.written peer.new) (H.alone shelf.old) (H.seen shelf.old) (H.published shelf.old)

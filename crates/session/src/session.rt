@@ -1,6 +1,7 @@
 //! A session: its scratch, and the call that serves one peer.
 ghost use Rattle.std.specs.Prelude.{◌≡◌, ◌≤◌, ◌<◌, ◌^◌, ◌++◌, ℕ, List, Some, false, length};
 ghost use Rattle.session.specs.Turns.{EndsAs};
+ghost use Rattle.session.specs.declared.session.TheConstants.{MOST_WORKERS};
 ghost use Rattle.text_forms.specs.Items.{NoBye, items_of};
 ghost use Rattle.wires.specs.Causes.{Rose};
 
@@ -13,6 +14,9 @@ use std::alloc::Global;
 use tree_versions::Shelf;
 use wires::Peer;
 
+/// The most workers that may build the trees of a session.
+pub const MOST_WORKERS: u32 = 16;
+
 /// The scratch of a session. Nothing of one session lasts into the next.
 #[derive(Drop)]
 pub struct Session {
@@ -23,13 +27,13 @@ pub struct Session {
 
 impl Session {
     /// Takes all memory that a session needs beside that of the texts that it loads. Its trees may be
-    /// built by so many workers, 1 to 16; the session builds them alone, whatever their number.
+    /// built by so many workers, 1 to [`MOST_WORKERS`]; the session builds them alone, whatever their number.
     ///
     /// # Errors
     /// [`NoMemory`] where that memory can't be had.
     pub fn make(alloc: Global, workers: u32) -> Result<Session, NoMemory>
         requires some { 0 < workers }
-        requires few { workers ≤ 16 }
+        requires most { workers ≤ MOST_WORKERS }
     {
         let _ = workers;
         Ok(Session {

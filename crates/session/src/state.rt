@@ -4,18 +4,19 @@ ghost use Rattle.std.specs.Prelude.{length, IfOk, Ok, IsFalse, IsTrue, if◌then
 ghost use Rattle.std.specs.Arc.{arc_value};
 ghost use Rattle.std.specs.Option.{option_copied};
 ghost use Rattle.std.specs.declared.option.Option.{Option};
+ghost use Rattle.cut_model.specs.declared.network.TheConstants.{MOST_LINKS, MOST_ROUTERS};
 ghost use Rattle.network_text.specs.Texts.{verdict_of};
 ghost use Rattle.query_lang.specs.Replies.{loaded_text, refused_text};
 ghost use Rattle.query_lang.specs.Requests.{IsOf, needs_record};
 ghost use Rattle.session.specs.Answers.{IsTextRefusal, RepliesTo, sheet_in};
 ghost use Rattle.session.specs.Modes.{Closing, Loads};
-ghost use Rattle.session.specs.Taking.{HasRead, Holds, LineTaken, is_stale, lines_in};
+ghost use Rattle.session.specs.Taking.{HasRead, HasOpen, LineTaken, is_stale, lines_in};
 ghost use Rattle.tree_versions.specs.Records.{RecordView, record_at};
 ghost use Rattle.tree_versions.specs.Shelves.{Looks};
 
 use crate::build::build_tree;
 use crate::intake::{Intake, Taken};
-use cut_model::NoMemory;
+use cut_model::{MOST_LINKS, MOST_ROUTERS, NoMemory};
 use dinic_flow::FlowDesk;
 use network_text::{Fed, Reader, Sheet, TextFault, TextKind};
 use path_minimum::PathRoom;
@@ -27,12 +28,6 @@ use std::mem;
 use std::sync::Arc;
 use text_forms::is_end;
 use tree_versions::{MOST_RECORDS, PublishFault, Record, Shelf};
-
-/// The most routers that a network has.
-const MOST_ROUTERS: u32 = 1024;
-
-/// The most links that a network has.
-const MOST_LINKS: u32 = 8192;
 
 /// The refusal of a network where the records are as many as can be kept.
 const SHELF_FULL: u32 = 20;
@@ -47,7 +42,7 @@ pub struct State {
     pub reply: ReplyBuffer,
     room: PathRoom,
     desk: FlowDesk,
-    ghost desk_room: { desk.room ≡ record { routers = 1024; links = 8192 } },
+    ghost desk_room: { desk.room ≡ record { routers = MOST_ROUTERS; links = MOST_LINKS } },
     ghost unended: { is_stale intake ≡ false },
 }
 
@@ -75,7 +70,7 @@ fn sheet_of<'a>(seen: Option<&'a Record>) -> Option<&'a Sheet>
 
 /// Begins to read a text.
 fn begin_text(alloc: Global) -> Intake
-    ensures holds { Holds result (Some []) }
+    ensures begun { HasOpen result (Some []) }
     ensures no_line { lines_in result ≡ 0 }
     ensures unended { is_stale result ≡ false }
 {
@@ -92,13 +87,13 @@ impl State {
     /// # Errors
     /// [`NoMemory`] where the memory of one of these can't be had.
     pub fn make(alloc: Global) -> Result<State, NoMemory>
-        ensures between { IfOk result (λ state. Holds state.intake None) }
+        ensures between { IfOk result (λ state. HasOpen state.intake None) }
     {
         Ok(State {
             intake: Intake::Between,
             reply: ReplyBuffer::make(alloc)?,
             room: PathRoom::make(alloc)?,
-            desk: FlowDesk::with_room(alloc, MOST_ROUTERS, MOST_LINKS)?,
+            desk: FlowDesk::with_room(alloc, MOST_ROUTERS, MOST_LINKS as u32)?,
         })
     }
 
@@ -144,7 +139,7 @@ impl State {
     /// its record alone.
     pub fn take_line<H: Shelf>(&mut self, alloc: Global, shelf: &mut H, line: &[u8]) -> Taken
         requires few { lines_in self.old.intake < 2 ^ 31 }
-        ensures taken { (open_text : Option (List (List ℕ))) → Holds self.old.intake open_text
+        ensures taken { (open_text : Option (List (List ℕ))) → HasOpen self.old.intake open_text
             → LineTaken (H.alone shelf.old) (H.seen shelf.old) (H.published shelf.old) (H.seen shelf.new) (H.published shelf.new)
             open_text self.new.intake line.now self.new.reply result }
         ensures lines { lines_in self.new.intake ≤ lines_in self.old.intake + 1 }
@@ -159,7 +154,7 @@ impl State {
 
     /// Takes a line between two items: it looks at the shelf once, and answers from the last record.
     fn take_request<H: Shelf>(&mut self, alloc: Global, shelf: &mut H, line: &[u8]) -> Taken
-        requires between { Holds self.old.intake None }
+        requires between { HasOpen self.old.intake None }
         ensures taken { LineTaken (H.alone shelf.old) (H.seen shelf.old) (H.published shelf.old) (H.seen shelf.new)
             (H.published shelf.new) None self.new.intake line.now self.new.reply result }
         ensures no_line { lines_in self.new.intake ≡ 0 }
@@ -219,7 +214,7 @@ impl State {
     ) -> Taken
         requires open { IsFalse reader.ended }
         requires few { reader.progress.lines < 2 ^ 31 }
-        ensures taken { (text : List (List ℕ)) → Holds (Intake.Text reader) (Some text)
+        ensures taken { (text : List (List ℕ)) → HasOpen (Intake.Text reader) (Some text)
             → LineTaken (H.alone shelf.old) (H.seen shelf.old) (H.published shelf.old) (H.seen shelf.new) (H.published shelf.new)
             (Some text) self.new.intake line.now self.new.reply result }
         ensures lines { lines_in self.new.intake ≤ reader.progress.lines + 1 }
@@ -334,7 +329,7 @@ impl State {
     /// Makes the reply that is owed where the input ends, and says whether one is.
     pub fn close_input<H: Shelf>(&mut self, shelf: &mut H) -> bool
         requires few { lines_in self.old.intake < 2 ^ 31 }
-        ensures owed { (open_text : Option (List (List ℕ))) → Holds self.old.intake open_text
+        ensures owed { (open_text : Option (List (List ℕ))) → HasOpen self.old.intake open_text
             → Closing (H.alone shelf.old) (H.seen shelf.old) (H.published shelf.old) open_text
             (if result then self.new.reply else []) (H.seen shelf.new) (H.published shelf.new) }
         ensures alone { H.alone shelf.new ≡ H.alone shelf.old }

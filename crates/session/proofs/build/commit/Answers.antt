@@ -14,7 +14,7 @@ neighbour-neighbour-requires c =
 
 pub least_cut_of_held_uncounted-value-requires-clause-s : goal.least_cut_of_held_uncounted-value-requires-clause-s
 least_cut_of_held_uncounted-value-requires-clause-s c =
-    subst (λ (n : Net). c.args.router < n.routers) (sym c.requires.held)
+    subst (λ (n : Net). c.args.router < n.routers) (sym c.requires.loaded)
     (terminal-lt c.args.net.now c.args.router c.requires.terminal)
 
 pub least_cut_of_held_uncounted-value-requires-clause-differ :

@@ -6,7 +6,7 @@ use Rattle.tree_state.specs.History.{AllEntered}
 
 pub loop-router-init : goal.loop-router-init
 loop-router-init c = record {
-  held = c.requires.held;
+  loaded = c.requires.loaded;
   room = refl;
   net = c.requires.net;
   same = refl;

@@ -1,6 +1,6 @@
 use Rattle.std.proofs.Common.{ℕ, List, sym, subst}
 use Rattle.std.specs.declared.option.Option.{Option}
-use Rattle.session.specs.Taking.{Holds, LineTaken}
+use Rattle.session.specs.Taking.{HasOpen, LineTaken}
 use Rattle.session.specs.declared.intake.Intake.{Intake}
 use Rattle.session.proofs.Loading.{text_open, lost_open}
 use Rattle.session.proofs.state.State.take_line.Goals as goal
@@ -12,7 +12,7 @@ returns-in-Text-clause-taken g c = λ open_text h.
     (g.H.Shelf.published c.args.shelf.now) (g.H.Shelf.seen c.take_text.new.shelf) (g.H.Shelf.published c.take_text.new.shelf) m
     c.take_text.new.self.intake c.args.line.now c.take_text.new.self.reply c.take_text.result)
     c.in-Text.reader c.take_text.ensures.taken open_text
-    (subst (λ (i : Intake). Holds i open_text) (sym c.in-Text.ensures.value) h)
+    (subst (λ (i : Intake). HasOpen i open_text) (sym c.in-Text.ensures.value) h)
 
 pub returns-in-Lost-clause-taken : goal.returns-in-Lost-clause-taken
 returns-in-Lost-clause-taken g c = λ open_text h.
@@ -20,4 +20,4 @@ returns-in-Lost-clause-taken g c = λ open_text h.
     (λ (m : Option (List (List ℕ))). LineTaken (g.H.Shelf.alone c.args.shelf.now) (g.H.Shelf.seen c.args.shelf.now)
     (g.H.Shelf.published c.args.shelf.now) (g.H.Shelf.seen c.take_lost.new.shelf) (g.H.Shelf.published c.take_lost.new.shelf) m
     c.take_lost.new.self.intake c.args.line.now c.take_lost.new.self.reply c.take_lost.result)
-    c.take_lost.ensures.taken open_text (subst (λ (i : Intake). Holds i open_text) (sym c.in-Lost.ensures.value) h)
+    c.take_lost.ensures.taken open_text (subst (λ (i : Intake). HasOpen i open_text) (sym c.in-Lost.ensures.value) h)

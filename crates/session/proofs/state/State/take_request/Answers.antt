@@ -1,5 +1,5 @@
 use Rattle.std.proofs.Common.{None, Ok, Err, sym, subst}
-use Rattle.session.specs.Taking.{Holds}
+use Rattle.session.specs.Taking.{HasOpen}
 use Rattle.session.specs.declared.intake.Intake.{Intake}
 use Rattle.session.proofs.Requesting.{passed_taken, load_taken, bye_taken, asked_taken}
 use Rattle.session.proofs.state.State.take_request.Goals as goal
@@ -17,7 +17,7 @@ returns-in-Ok-Load-clause-taken g c =
     load_taken _ _ _ _ _ (g.H.Shelf.few c.look-version.new.self) c.look-version.ensures.seen
     c.look-version.ensures.published
     c.look-version.result _
-    c.look-version.ensures.count c.seen_record-seen.ensures _ c.args.line.now c.begin_text.ensures.holds
+    c.look-version.ensures.count c.seen_record-seen.ensures _ c.args.line.now c.begin_text.ensures.begun
     (rw (c.in-Ok-Load.field-0-is, c.sheet_of.ensures) at c.in-Ok-Load.ensures.value)
 
 pub returns-in-Ok-clause-taken : goal.returns-in-Ok-clause-taken
@@ -27,7 +27,7 @@ returns-in-Ok-clause-taken g c =
     c.look-version.result _
     c.look-version.ensures.count c.seen_record-seen.ensures _ c.args.line.now (Ok c.in-Ok.request)
     c.report.new.self.reply
-    (subst (λ (i : Intake). Holds i None) (sym c.report.ensures.intake) c.requires.between)
+    (subst (λ (i : Intake). HasOpen i None) (sym c.report.ensures.intake) c.requires.between)
     (rw c.sheet_of.ensures at c.in-Ok.ensures.value) c.report.ensures.reply
 
 pub returns-in-Ok-Bye-clause-taken : goal.returns-in-Ok-Bye-clause-taken
@@ -45,5 +45,5 @@ returns-in-Err-clause-taken g c =
     c.look-version.result _
     c.look-version.ensures.count c.seen_record-seen.ensures _ c.args.line.now (Err c.in-Err.fault)
     c.refuse.new.self.reply
-    (subst (λ (i : Intake). Holds i None) (sym c.refuse.ensures.intake) c.requires.between)
+    (subst (λ (i : Intake). HasOpen i None) (sym c.refuse.ensures.intake) c.requires.between)
     (rw c.sheet_of.ensures at c.in-Err.ensures.value) (rw c.number.ensures at c.refuse.ensures.reply)
