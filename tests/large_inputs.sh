@@ -124,7 +124,7 @@ try the_widest_edge_of_a_tree 0 "$room/wanted" "$room/stdin" plan
 # Networks of forty sizes, from one router without a link to 1,024 with 8,192, in texts of up to 30,000
 # lines, of which most are remarks and empty. The routers stand in a row, and the links join neighbours,
 # one pair after the other. So r0 is cut off by its links to r1, and on its side are those routers that
-# no link reaches.
+# no link reaches, in whatever order the routers are committed.
 awk -v inputs="$room/stdin" -v replies="$room/wanted" '
     # The lines of the text that say something, one after another.
     function say(i) {
@@ -179,3 +179,4 @@ awk -v inputs="$room/stdin" -v replies="$room/wanted" '
         }
     }'
 try networks_of_forty_sizes_in_texts_of_up_to_30000_lines 0 "$room/wanted" "$room/stdin" plan
+try networks_of_forty_sizes_with_16_workers 0 "$room/wanted" "$room/stdin" plan --workers=16
