@@ -1,21 +1,24 @@
 #!/bin/sh
-# usage: bench/trees.sh [PROGRAM [NETWORK..]]
+# usage: [BEFORE=PROGRAM] bench/trees.sh [PROGRAM [NETWORK..]]
 #
 # Measures the whole job on networks of many kinds, text in and tree out: a session that loads a
 # network and asks for its tree, by the built program, by Gusfield's method (1990) in C++ over the same
 # kernel, and by what others wrote and users have at hand: LEMON's `GomoryHu`, igraph's
 # `igraph_gomory_hu_tree` and networkx' `gomory_hu_tree`, where they are installed. All have one thread.
-# The widths of the trees must be the same, or the script fails. At the end it measures the memory that
-# the program holds for one record of the largest network.
+# Beside them, in the same run, the program is measured with several workers, and where BEFORE names
+# another build of it, that one too, without options. The widths of the trees must be the same, or the
+# script fails. At the end it measures the memory that the program holds for one record of the largest
+# network.
 #
 # The figure of a way is what one such round adds to the time for which processors run a process: the
 # difference between processes of many rounds and of one, by their numbers of rounds. The ways take
 # turns, and each figure is from the medians. What takes long in its first round is measured by that
 # round alone, less what a session without a round takes; what takes very long is stopped and left out.
-# Beside this stands the wall time of a whole process of one round. What is in C++ is compiled by g++
-# and by clang++, whichever are there, and the faster counts. The networks are made on the fly in a
-# temporary folder, and all output goes to /dev/null. It takes some five minutes, and with networkx, which is
-# stopped on most networks, half an hour.
+# Beside this stands the wall time of a whole process of one round. For the workers the figure is what
+# one round adds to the wall time, which says as much as the machine has processors that are free: their
+# number stands above the table. What is in C++ is compiled by g++ and by clang++, whichever are there,
+# and the faster counts. The networks are made on the fly in a temporary folder, and all output goes to
+# /dev/null. It takes minutes, and with networkx, which is stopped on most networks, half an hour.
 #
 # Needs compilers for C and C++ beside what the program needs: the Debian packages gcc, g++ and
 # libc6-dev (others: coreutils, gawk or mawk; clang; liblemon-dev, libigraph-dev and python3-networkx
@@ -27,6 +30,9 @@ cd "$(dirname -- "$(readlink -f -- "$0")")/.." || exit 1
 
 program=${1:-crates/planner_main/out/planner_main}
 [ "$#" -gt 0 ] && shift
+before=${BEFORE-}
+# The numbers of workers beside one.
+workers='2 4 16'
 # How many runs a median is of.
 rounds=5
 # A process of many rounds takes about so many seconds.
@@ -43,6 +49,11 @@ backbone rmf_8_16 grid star chain chords clusters* necklace*'
 
 # shellcheck source=bench/measuring.sh
 . bench/measuring.sh
+
+[ -z "$before" ] || [ -x "$before" ] || {
+    printf '%s is no program\n' "$before" >&2
+    exit 1
+}
 
 compilers=$(for compiler in g++ clang++; do
     command -v "$compiler" >/dev/null && echo "$compiler"
@@ -101,6 +112,13 @@ else
     leave_out networkx python3-networkx
 fi
 
+# The runs of the program by which workers are compared.
+team=ours
+for count in $workers; do
+    team="$team ours.$count"
+done
+[ -z "$before" ] || team="$team before"
+
 # runs_of WAY: its runs, of which the fastest counts: of a way in C++ one by each compiler, but of igraph
 # one alone, since its method is in its library.
 runs_of() {
@@ -128,6 +146,8 @@ do_run() {
     shift 2
     case $what in
     ours) "$@" "$program" plan ;;
+    ours.*) "$@" "$program" plan "--workers=${what#ours.}" ;;
+    before) "$@" "$before" plan ;;
     networkx) "$@" "$python" bench/networkx_tree.py ;;
     *) "$@" "$room/${what%%.*}_tree.${what#*.}" ;;
     esac <"$session"
@@ -190,13 +210,13 @@ rounds_for() {
     }'
 }
 
-# milliseconds_of RUN ROUNDS: what one round takes.
+# milliseconds_of RUN ROUNDS FIELD: what one round takes, of processor time (4) or by the wall (1).
 milliseconds_of() {
     if [ "$2" -eq 1 ]; then
-        awk -v one="$(field_of "$1" 1 4)" -v none="$(field_of "$1" 0 4)" \
+        awk -v one="$(field_of "$1" 1 "$3")" -v none="$(field_of "$1" 0 "$3")" \
             'BEGIN { printf "%.4f\n", (one - none) * 1000 }'
     else
-        awk -v many="$(median_of "$1.$2" 4)" -v one="$(median_of "$1.1" 4)" -v rounds="$2" \
+        awk -v many="$(median_of "$1.$2" "$3")" -v one="$(median_of "$1.1" "$3")" -v rounds="$2" \
             'BEGIN { printf "%.4f\n", (many - one) / (rounds - 1) * 1000 }'
     fi
 }
@@ -210,13 +230,28 @@ wall_of() {
     fi | awk '{ printf "%.4f\n", $1 * 1000 }'
 }
 
+# count_of RUN: how many rounds of it are measured together; nothing where it is left out.
+count_of() {
+    awk -v run="$1" '$1 == run { print $2 }' "$room/counts"
+}
+
 # figures_of WAY: the milliseconds of a round, and of a whole process, of its fastest run, or dashes.
 figures_of() {
     for run in $(runs_of "$1"); do
-        awk -v run="$run" '$1 == run { print $2 }' "$room/counts" | while read -r count; do
-            printf '%s %s\n' "$(milliseconds_of "$run" "$count")" "$(wall_of "$run" "$count")"
+        count_of "$run" | while read -r count; do
+            printf '%s %s\n' "$(milliseconds_of "$run" "$count" 4)" "$(wall_of "$run" "$count")"
         done
     done | sort -n | awk 'NR == 1 { print; found = 1 } END { if (!found) print "- -" }'
+}
+
+# round_of RUN: the milliseconds of a round by the wall, or a dash.
+round_of() {
+    count=$(count_of "$1")
+    if [ -n "$count" ]; then
+        milliseconds_of "$1" "$count" 1
+    else
+        echo -
+    fi
 }
 
 # choose_counts NETWORK: tries each run, and writes those that are not left out to the file `counts`,
@@ -247,7 +282,7 @@ take_turns() {
     done
 }
 
-# time_network NETWORK: appends the name and the figures of each way.
+# time_network NETWORK: appends the name and the figures of each way, and of each number of workers.
 time_network() {
     awk -v kind="${1%\*}" -f bench/tree_networks.awk >"$room/network" || exit 1
     write_session 1
@@ -260,6 +295,13 @@ time_network() {
         done
         echo
     } >>"$room/times"
+    {
+        printf '%s' "$1"
+        for run in $team; do
+            printf ' %s' "$(round_of "$run")"
+        done
+        echo
+    } >>"$room/walls"
     rm "$room"/session.[1-9]*
     while read -r run count; do
         rm -f "$room/$run.1" "$room/$run.$count"
@@ -267,6 +309,7 @@ time_network() {
 }
 
 runs=$(for way in $ways; do runs_of "$way"; done)
+runs="$runs ${team#ours }"
 : >"$room/network"
 write_session 0
 for run in $runs; do
@@ -283,6 +326,11 @@ printf '\nmilliseconds of a round (processor time, medians of %s runs in turn) |
     "$rounds"
 printf 'whole process of one round (wall time); * made hard for one of the methods\n\n'
 awk -v ways="$ways" -f bench/tree_table.awk "$room/times"
+
+printf '\nmilliseconds of a round by the wall (medians of %s runs in turn), by the number of workers, on %s\n' \
+    "$rounds" "$(nproc)"
+printf 'processors, and how many times as long one worker takes\n\n'
+awk -v team="$team" -f bench/workers_table.awk "$room/walls"
 
 {
     awk -v loads=1 -f bench/largest_texts.awk
