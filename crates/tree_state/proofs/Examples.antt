@@ -3,6 +3,7 @@ use Rattle.std.proofs.Common.{◌≡◌, ℕ, true, false, List, [], ◌∷◌, 
 use Rattle.tree_state.specs.declared.entry.Entry.{Entry}
 use Rattle.tree_state.specs.Tables.{up_after, width_after, some_up, below}
 use Rattle.tree_state.specs.History.{tables, entered}
+use Rattle.tree_state.specs.Moves.{moves_from, moves, sum_over, most_moves}
 
 -- the six routers
 six : List ℕ
@@ -65,3 +66,16 @@ below_zero = refl
 below_five : map (below 6 (tables 0 history).up 5) six ≡ false ∷ false ∷ false ∷ false ∷ false ∷ true ∷ []
 unfolding tables up_after history six some_up
 below_five = refl
+
+-- how often each router moves before it is entered: the last one with the first commit and with its neighbour's own
+moves_of_six : map (moves 0 history) six ≡ 0 ∷ 0 ∷ 0 ∷ 1 ∷ 1 ∷ 2 ∷ []
+unfolding moves_from up_after history six
+moves_of_six = refl
+
+-- four moves in all, of ten that six terminals may make
+moves_together : sum_over (λ router. true) (moves 0 history) 6 ≡ 4
+unfolding sum_over moves_from up_after history
+moves_together = refl
+
+most_of_six : most_moves 6 ≡ 10
+most_of_six = refl
