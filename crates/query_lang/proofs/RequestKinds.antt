@@ -9,7 +9,7 @@ use Rattle.cut_model.specs.Terminals.{terminal_count}
 use Rattle.network_text.specs.Sheets.{SheetView}
 use Rattle.tree_state.specs.Views.{TreeView}
 use Rattle.query_lang.specs.Reports.{IsReport}
-use Rattle.query_lang.specs.Requests.{about, alone, ends_of, needs_record, request_of, weakest_of, words_ask}
+use Rattle.query_lang.specs.Requests.{about, ends_of, needs_record, of_one_word, request_of, weakest_of, words_ask}
 use Rattle.query_lang.specs.declared.request.Request.{Request}
 use Rattle.query_lang.specs.declared.request.Request.TheVariants.{Nothing, Load, Cut, Path, Tree, Run, Net}
 use Rattle.query_lang.specs.declared.request.Request.TheVariants.{Weakest, Bye}
@@ -66,12 +66,12 @@ other_weakest (Some sheet) [] = chosen (nat_lt (terminal_count sheet.net) 2)
     chosen false = refl
 
 -- So does a word that needs a record, whatever stands behind it.
-other_alone : (request : Request) (sheet : Option SheetView) (words : List (List ℕ)) → IsTrue (needs_record request)
-    → IsOther (alone request sheet words)
-other_alone request None [] needs = rw needs tt
-other_alone request None (word ∷ words) needs = tt
-other_alone request (Some sheet) [] needs = needs
-other_alone request (Some sheet) (word ∷ words) needs = tt
+other_of_one_word : (request : Request) (sheet : Option SheetView) (words : List (List ℕ)) → IsTrue (needs_record request)
+    → IsOther (of_one_word request sheet words)
+other_of_one_word request None [] needs = rw needs tt
+other_of_one_word request None (word ∷ words) needs = tt
+other_of_one_word request (Some sheet) [] needs = needs
+other_of_one_word request (Some sheet) (word ∷ words) needs = tt
 
 -- A word that is the one isn't the other.
 not_both : (word one other : List ℕ) → bytes_eq one other ≡ false → bytes_eq word one ≡ true
@@ -80,7 +80,7 @@ not_both word one other differ is = ap (λ text. bytes_eq text other) ((bytes_eq
 
 -- The word that begins a text does so alone, and else the words behind it in the order of the tests tell.
 kind_load : (load : Bool) (sheet : Option SheetView) (rest : Result Request RequestFault) (bye : Bool)
-    → IsKind rest false false bye → IsKind (if load then alone Load sheet [] else rest) false load bye
+    → IsKind rest false false bye → IsKind (if load then of_one_word Load sheet [] else rest) false load bye
 kind_load true None rest bye kind = (refl, refl)
 kind_load true (Some sheet) rest bye kind = (refl, refl)
 kind_load false sheet rest bye kind = kind
@@ -93,7 +93,7 @@ kind_past false answer rest bye no_bye other kind = kind
 
 -- The last test is for the word that ends the session.
 kind_bye : (bye : Bool) (sheet : Option SheetView)
-    → IsKind (if bye then alone Bye sheet [] else Err UnknownWord) false false bye
+    → IsKind (if bye then of_one_word Bye sheet [] else Err UnknownWord) false false bye
 kind_bye true None = (refl, refl, refl)
 kind_bye true (Some sheet) = (refl, refl, refl)
 kind_bye false sheet = (refl, refl, refl)
@@ -107,11 +107,11 @@ kind_of_one sheet word =
     (kind_past (bytes_eq word (codes "CUT")) _ _ bye (not_both word (codes "CUT") (codes "BYE") refl) tt
     (kind_past (bytes_eq word (codes "PATH")) _ _ bye (not_both word (codes "PATH") (codes "BYE") refl) tt
     (kind_past (bytes_eq word (codes "TREE")) _ _ bye (not_both word (codes "TREE") (codes "BYE") refl)
-    (other_alone Tree sheet [] refl)
+    (other_of_one_word Tree sheet [] refl)
     (kind_past (bytes_eq word (codes "RUN")) _ _ bye (not_both word (codes "RUN") (codes "BYE") refl)
-    (other_alone Run sheet [] refl)
+    (other_of_one_word Run sheet [] refl)
     (kind_past (bytes_eq word (codes "NET")) _ _ bye (not_both word (codes "NET") (codes "BYE") refl)
-    (other_alone Net sheet [] refl)
+    (other_of_one_word Net sheet [] refl)
     (kind_past (bytes_eq word (codes "WEAKEST")) _ _ bye (not_both word (codes "WEAKEST") (codes "BYE") refl)
     (other_weakest sheet []) (kind_bye bye sheet)))))))
 

@@ -49,16 +49,16 @@ PathTurnedIsOneWay =
 -- is the width of that edge, no edge of the path has a smaller one, and of those that have it, it has the smallest
 -- number.
 pub record TellLeastOfPath (version : ℕ) (sheet : SheetView) (tree : TreeView) (a : ℕ) (cut path : List ℕ) : Type 0
-    where
-  pub children : List ℕ
-  pub path_told : path ≡ path_text version sheet tree children
-  pub child : ℕ
-  pub on_path : Contains children child
-  pub least : (c : ℕ) → Contains children c → width_of tree child ≤ width_of tree c
-  pub first : (c : ℕ) → Contains children c → width_of tree c ≡ width_of tree child → child ≤ c
-  pub side : List Bool
-  pub side_is : ShowsSet tree.net.routers (side_for tree.net.routers (up_of tree) a child) side
-  pub cut_told : cut ≡ cut_text version (codes "CUT") (width_of tree child) sheet.names side
+  where
+    pub children : List ℕ
+    pub path_told : path ≡ path_text version sheet tree children
+    pub child : ℕ
+    pub on_path : Contains children child
+    pub least : (c : ℕ) → Contains children c → width_of tree child ≤ width_of tree c
+    pub first : (c : ℕ) → Contains children c → width_of tree c ≡ width_of tree child → child ≤ c
+    pub side : List Bool
+    pub side_is : ShowsSet tree.net.routers (side_for tree.net.routers (up_of tree) a child) side
+    pub cut_told : cut ≡ cut_text version (codes "CUT") (width_of tree child) sheet.names side
 
 -- So does the reply to CUT for the two routers of a PATH.
 abbrev pub CutIsLeastOfPath : Type 0
@@ -75,10 +75,10 @@ pub record PartsBy (tree : TreeView) (a b c : ℕ) : Type 0 where
 
 -- A reply to PATH tells edges of which each parts the two routers.
 pub record TellPartingEdges (version : ℕ) (sheet : SheetView) (tree : TreeView) (a b : ℕ) (text : List ℕ) : Type 0
-    where
-  pub children : List ℕ
-  pub told : text ≡ path_text version sheet tree children
-  pub part : (c : ℕ) → Contains children c → PartsBy tree a b c
+  where
+    pub children : List ℕ
+    pub told : text ≡ path_text version sheet tree children
+    pub part : (c : ℕ) → Contains children c → PartsBy tree a b c
 
 -- Each does, in a cut tree.
 abbrev pub PathPartsItsEnds : Type 0

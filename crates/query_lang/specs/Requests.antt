@@ -34,10 +34,10 @@ needs_record Bye = false
 needs_record request = true
 
 -- A request of one word, by the words behind it: one that needs a record is refused where there is none.
-abbrev pub alone : Request → Option SheetView → List (List ℕ) → Result Request RequestFault
-alone request sheet (word ∷ words) = Err WrongCount
-alone request None [] = if needs_record request then Err NoNetwork else Ok request
-alone request (Some sheet) [] = Ok request
+abbrev pub of_one_word : Request → Option SheetView → List (List ℕ) → Result Request RequestFault
+of_one_word request sheet (word ∷ words) = Err WrongCount
+of_one_word request None [] = if needs_record request then Err NoNetwork else Ok request
+of_one_word request (Some sheet) [] = Ok request
 
 -- Two routers, where they are known and differ.
 abbrev pub ends_between : Option ℕ → Option ℕ → Result (ℕ × ℕ) RequestFault
@@ -60,23 +60,23 @@ abbrev pub about : (ℕ → ℕ → Request) → Result (ℕ × ℕ) RequestFaul
 about request (Ok ends) = Ok (request ends.0 ends.1)
 about request (Err fault) = Err fault
 
--- `WEAKEST` is such a request, and refused where the network has one terminal alone.
+-- `WEAKEST` is a request of one word, and refused where the network has one terminal alone.
 abbrev pub weakest_of : Option SheetView → List (List ℕ) → Result Request RequestFault
 weakest_of (Some sheet) [] = if nat_lt (terminal_count sheet.net) 2 then Err OneRouter else Ok Weakest
-weakest_of sheet words = alone Weakest sheet words
+weakest_of sheet words = of_one_word Weakest sheet words
 
 -- The first word says what is asked for.
 abbrev pub words_ask : Option SheetView → List (List ℕ) → Result Request RequestFault
 words_ask sheet [] = Ok Nothing
 words_ask sheet (word ∷ words) =
-    if bytes_eq word (codes "LOAD") then alone Load sheet words
+    if bytes_eq word (codes "LOAD") then of_one_word Load sheet words
     else if bytes_eq word (codes "CUT") then about Cut (ends_of sheet words)
     else if bytes_eq word (codes "PATH") then about Path (ends_of sheet words)
-    else if bytes_eq word (codes "TREE") then alone Tree sheet words
-    else if bytes_eq word (codes "RUN") then alone Run sheet words
-    else if bytes_eq word (codes "NET") then alone Net sheet words
+    else if bytes_eq word (codes "TREE") then of_one_word Tree sheet words
+    else if bytes_eq word (codes "RUN") then of_one_word Run sheet words
+    else if bytes_eq word (codes "NET") then of_one_word Net sheet words
     else if bytes_eq word (codes "WEAKEST") then weakest_of sheet words
-    else if bytes_eq word (codes "BYE") then alone Bye sheet words
+    else if bytes_eq word (codes "BYE") then of_one_word Bye sheet words
     else Err UnknownWord
 
 -- What a line asks for with the network that there is, or the first fault: too long, an unknown word, another number

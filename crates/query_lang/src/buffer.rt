@@ -64,6 +64,8 @@ impl Sink for ReplySink {
 
 /// Room for one reply of [`MOST_REPLY_BYTES`] bytes, more than any reply has. Its memory is taken when it
 /// is made, and a reply that is gathered in it takes none. Contracts see the bytes.
+///
+/// After `bye_reply(&mut buffer, 10)`, `buffer.bytes()` gives `@10 BYE` with its line feed.
 #[derive(Drop)]
 pub struct ReplyBuffer {
     gathered: ReplySink,
@@ -102,7 +104,8 @@ impl ReplyBuffer {
     }
 }
 
-/// Gathers the reply to an accepted network, in place of what the buffer had.
+/// Gathers the reply to an accepted network, in place of what the buffer had: `@1 LOADED routers 2 links
+/// 1`, with version 1 and two routers that one link joins.
 pub fn loaded_reply(buffer: &mut ReplyBuffer, version: u32, net: &Network)
     ensures { buffer.new ≡ loaded_text version net.now }
 {
@@ -111,7 +114,8 @@ pub fn loaded_reply(buffer: &mut ReplyBuffer, version: u32, net: &Network)
     write_loaded(version, net, gathered).unwrap();
 }
 
-/// Gathers the reply to CUT, PATH, TREE, RUN, NET or WEAKEST, in place of what the buffer had.
+/// Gathers the reply to CUT, PATH, TREE, RUN, NET or WEAKEST, in place of what the buffer had: what
+/// [`write_reply`] writes.
 pub fn report_reply(
     buffer: &mut ReplyBuffer,
     version: u32,
@@ -134,7 +138,7 @@ pub fn report_reply(
     write_reply(version, sheet, finished, ladder, request, room, gathered).unwrap();
 }
 
-/// Gathers the reply to the line that ends a session, in place of what the buffer had.
+/// Gathers the reply to the line that ends a session, in place of what the buffer had: `@1 BYE`.
 pub fn bye_reply(buffer: &mut ReplyBuffer, version: u32)
     ensures { buffer.new ≡ bye_text version }
 {
@@ -144,7 +148,7 @@ pub fn bye_reply(buffer: &mut ReplyBuffer, version: u32)
 }
 
 /// Gathers the reply to a refused request, in place of what the buffer had. That of a network text
-/// tells the line.
+/// tells the line: `@0 NO 12 line 3`, and `@0 NO 6` without a line.
 pub fn refusal_reply(buffer: &mut ReplyBuffer, version: u32, number: u32, line: Option<u32>)
     ensures { buffer.new ≡ refused_text version number line }
 {

@@ -12,7 +12,7 @@ pub mod laws;
 mod replies;
 mod reports;
 mod request;
-mod shown;
+mod subject;
 #[cfg(test)]
 mod tests;
 mod trees;

@@ -9,7 +9,8 @@ use cut_model::Network;
 use itoa::Buffer;
 use wires::{Failed, Sink, put_pieces};
 
-/// Writes the reply to an accepted network: its numbers of routers and links.
+/// Writes the reply to an accepted network: its numbers of routers and links. With version 1 and two
+/// routers that one link joins: `@1 LOADED routers 2 links 1`.
 ///
 /// # Errors
 /// [`Failed`] where a put failed. A front of the reply was written then.
@@ -34,7 +35,7 @@ pub fn write_loaded<K: Sink>(version: u32, net: &Network, sink: &mut K) -> Resul
     )
 }
 
-/// Writes the reply to the line that ends a session.
+/// Writes the reply to the line that ends a session. `write_bye(1, &mut sink)` writes `@1 BYE`.
 ///
 /// # Errors
 /// [`Failed`] where a put failed. A front of the reply was written then.
@@ -47,7 +48,7 @@ pub fn write_bye<K: Sink>(version: u32, sink: &mut K) -> Result<(), Failed>
 }
 
 /// Writes the reply to a refused request, which tells why by a number, and for a network text in
-/// which line.
+/// which line. `write_refusal(0, 12, Some(3), &mut sink)` writes `@0 NO 12 line 3`.
 ///
 /// # Errors
 /// [`Failed`] where a put failed. A front of the reply was written then.
@@ -94,7 +95,7 @@ fn write_line_number<K: Sink>(line: Option<u32>, sink: &mut K) -> Result<(), Fai
 }
 
 /// Writes the first line of a reply of several lines: the word that says what it tells, and how
-/// many lines follow.
+/// many lines follow. `write_head(1, "NET", 4, &mut sink)` writes `@1 NET 4`.
 ///
 /// # Errors
 /// [`Failed`] where a put failed. A front of the line was written then.

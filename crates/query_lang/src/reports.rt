@@ -10,7 +10,7 @@ ghost use Rattle.wires.specs.Puts.{Puts};
 use crate::Request;
 use crate::cuts::write_cut;
 use crate::replies::write_head;
-use crate::shown::Shown;
+use crate::subject::Subject;
 use crate::trees::{write_path, write_run, write_tree};
 use cut_model::MOST_ROUTERS;
 use network_text::{Sheet, write_sheet};
@@ -40,56 +40,59 @@ fn write_net<K: Sink>(version: u32, sheet: &Sheet, sink: &mut K) -> Result<(), F
 /// with the routers on the first one's side.
 fn write_least_cut<K: Sink>(
     version: u32,
-    shown: &Shown,
+    subject: &Subject,
     a: u32,
     b: u32,
     sink: &mut K,
 ) -> Result<(), Failed>
-    requires { AreEnds shown.now.sheet.now a b }
+    requires { AreEnds subject.now.sheet.now a b }
     ensures puts { PutsSome K.Sink sink.old sink.new result
-        (IsCutReport version shown.now.sheet.now shown.now.finished.now.tree a b) }
+        (IsCutReport version subject.now.sheet.now subject.now.finished.now.tree a b) }
 {
-    prove!(a.max(b) < shown.sheet.net().routers());
-    let least = least_on_path_uncounted(shown.ladder, shown.finished, a, b);
-    let side = side_holding(shown.finished, least.child, a);
-    write_cut(version, "CUT", least.width, shown.sheet, &side, sink)
+    prove!(a.max(b) < subject.sheet.net().routers());
+    let least = least_on_path_uncounted(subject.ladder, subject.finished, a, b);
+    let side = side_holding(subject.finished, least.child, a);
+    write_cut(version, "CUT", least.width, subject.sheet, &side, sink)
 }
 
 /// Writes the reply to PATH: the edges of the path between two terminals, in their order.
 fn write_ordered_path<K: Sink>(
     version: u32,
-    shown: &Shown,
+    subject: &Subject,
     a: u32,
     b: u32,
     room: &mut PathRoom,
     sink: &mut K,
 ) -> Result<(), Failed>
-    requires { AreEnds shown.now.sheet.now a b }
+    requires { AreEnds subject.now.sheet.now a b }
     ensures puts { PutsSome K.Sink sink.old sink.new result
-        (IsPathReport version shown.now.sheet.now shown.now.finished.now.tree a b) }
+        (IsPathReport version subject.now.sheet.now subject.now.finished.now.tree a b) }
 {
-    path(shown.finished, a, b, room);
-    write_path(version, shown, room.children(), sink)
+    path(subject.finished, a, b, room);
+    write_path(version, subject, room.children(), sink)
 }
 
 /// Writes the reply to WEAKEST: the weakest edge gives a least cut of the whole network, with the
 /// routers below it.
-fn write_weakest<K: Sink>(version: u32, shown: &Shown, sink: &mut K) -> Result<(), Failed>
-    requires { 2 ≤ terminal_count shown.now.sheet.now.net }
+fn write_weakest<K: Sink>(version: u32, subject: &Subject, sink: &mut K) -> Result<(), Failed>
+    requires { 2 ≤ terminal_count subject.now.sheet.now.net }
     ensures puts { PutsSome K.Sink sink.old sink.new result
-        (IsWeakestReport version shown.now.sheet.now shown.now.finished.now.tree) }
+        (IsWeakestReport version subject.now.sheet.now subject.now.finished.now.tree) }
 {
-    prove!(shown.sheet.net().routers() <= MOST_ROUTERS);
-    let Some(least) = weakest(shown.finished) else {
+    prove!(subject.sheet.net().routers() <= MOST_ROUTERS);
+    let Some(least) = weakest(subject.finished) else {
         unreachable!()
     };
-    let side = side_below(shown.finished, least.child);
-    write_cut(version, "WEAKEST", least.width, shown.sheet, &side, sink)
+    let side = side_below(subject.finished, least.child);
+    write_cut(version, "WEAKEST", least.width, subject.sheet, &side, sink)
 }
 
 /// Writes the reply to CUT, PATH, TREE, RUN, NET or WEAKEST, from a network with the names of its
 /// routers, the finished run over it and the ladder of its tree. It takes no memory. For NET it looks
 /// at each router and each link once, and for each other request at each router a few times.
+///
+/// For routers a, b and c in a row, with links of 5 and 7, `Request::Cut(0, 2)` at version 1 writes
+/// `@1 CUT 5 side a`.
 ///
 /// # Errors
 /// [`Failed`] where a put failed. A front of the reply was written then.
@@ -109,18 +112,18 @@ pub fn write_reply<K: Sink>(
     ensures puts { PutsSome K.Sink sink.old sink.new result
         (IsReport version sheet.now finished.now.tree request.now) }
 {
-    let shown = Shown {
+    let subject = Subject {
         sheet,
         finished,
         ladder,
     };
     match *request {
-        Request::Cut(a, b) => write_least_cut(version, &shown, a, b, sink),
-        Request::Path(a, b) => write_ordered_path(version, &shown, a, b, room, sink),
-        Request::Tree => write_tree(version, &shown, sink),
-        Request::Run => write_run(version, &shown, sink),
+        Request::Cut(a, b) => write_least_cut(version, &subject, a, b, sink),
+        Request::Path(a, b) => write_ordered_path(version, &subject, a, b, room, sink),
+        Request::Tree => write_tree(version, &subject, sink),
+        Request::Run => write_run(version, &subject, sink),
         Request::Net => write_net(version, sheet, sink),
-        Request::Weakest => write_weakest(version, &shown, sink),
+        Request::Weakest => write_weakest(version, &subject, sink),
         Request::Nothing | Request::Load | Request::Bye => unreachable!(),
     }
 }

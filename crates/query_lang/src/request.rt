@@ -2,8 +2,8 @@
 ghost use Rattle.std.specs.Prelude.{◌≡◌, IfOk};
 ghost use Rattle.std.specs.Option.{option_copied};
 ghost use Rattle.network_text.specs.Sheets.{number_of};
-ghost use Rattle.query_lang.specs.Requests.{AreEnds, HasEnds, IsOf, alone, ends_between, ends_of};
-ghost use Rattle.query_lang.specs.Requests.{fault_number, needs_record as needs, request_of, weakest_of, words_ask};
+ghost use Rattle.query_lang.specs.Requests.{AreEnds, HasEnds, IsOf, ends_between, ends_of};
+ghost use Rattle.query_lang.specs.Requests.{fault_number, needs_record as needs, of_one_word, request_of, weakest_of, words_ask};
 ghost use Rattle.text_forms.specs.Words.{words_of};
 
 use network_text::Sheet;
@@ -81,7 +81,7 @@ pub enum RequestFault {
 }
 
 impl RequestFault {
-    /// The number by which clients are told of it.
+    /// The number by which clients are told of it: `RequestFault::NoNetwork.number()` is 6.
     pub fn number(self) -> u32
         ensures { result ≡ fault_number self }
     {
@@ -129,7 +129,7 @@ fn parse_words(text: &[u8], sheet: Option<&Sheet>) -> Result<Request, RequestFau
         return Ok(Request::Nothing);
     };
     if word == b"LOAD".as_slice() {
-        parse_alone(Request::Load, behind, sheet)
+        parse_one_word(Request::Load, behind, sheet)
     } else if word == b"CUT".as_slice() {
         let (a, b) = parse_ends(behind, sheet)?;
         Ok(Request::Cut(a, b))
@@ -137,15 +137,15 @@ fn parse_words(text: &[u8], sheet: Option<&Sheet>) -> Result<Request, RequestFau
         let (a, b) = parse_ends(behind, sheet)?;
         Ok(Request::Path(a, b))
     } else if word == b"TREE".as_slice() {
-        parse_alone(Request::Tree, behind, sheet)
+        parse_one_word(Request::Tree, behind, sheet)
     } else if word == b"RUN".as_slice() {
-        parse_alone(Request::Run, behind, sheet)
+        parse_one_word(Request::Run, behind, sheet)
     } else if word == b"NET".as_slice() {
-        parse_alone(Request::Net, behind, sheet)
+        parse_one_word(Request::Net, behind, sheet)
     } else if word == b"WEAKEST".as_slice() {
         parse_weakest(behind, sheet)
     } else if word == b"BYE".as_slice() {
-        parse_alone(Request::Bye, behind, sheet)
+        parse_one_word(Request::Bye, behind, sheet)
     } else {
         Err(RequestFault::UnknownWord)
     }
@@ -153,12 +153,12 @@ fn parse_words(text: &[u8], sheet: Option<&Sheet>) -> Result<Request, RequestFau
 
 /// A request of one word, by what stands behind it. One that needs a record is refused where there is
 /// none.
-fn parse_alone(
+fn parse_one_word(
     request: Request,
     text: &[u8],
     sheet: Option<&Sheet>,
 ) -> Result<Request, RequestFault>
-    ensures { result ≡ alone request (option_copied sheet.entry) (words_of text.now) }
+    ensures { result ≡ of_one_word request (option_copied sheet.entry) (words_of text.now) }
 {
     if split_word(text).is_some() {
         return Err(RequestFault::WrongCount);
@@ -174,7 +174,7 @@ fn parse_weakest(text: &[u8], sheet: Option<&Sheet>) -> Result<Request, RequestF
     ensures value { result ≡ weakest_of (option_copied sheet.entry) (words_of text.now) }
     ensures of { IfOk result (IsOf (option_copied sheet.entry)) }
 {
-    let request = parse_alone(Request::Weakest, text, sheet)?;
+    let request = parse_one_word(Request::Weakest, text, sheet)?;
     let known = sheet.ok_or(RequestFault::NoNetwork)?;
     if known.net().terminals() < 2 {
         return Err(RequestFault::OneRouter);

@@ -7,7 +7,7 @@ ghost use Rattle.query_lang.specs.Trees.{edge_line, path_text, run_text, tree_te
 ghost use Rattle.wires.specs.Puts.{Puts};
 
 use crate::replies::write_head;
-use crate::shown::Shown;
+use crate::subject::Subject;
 use itoa::Buffer;
 use network_text::Sheet;
 use tree_state::{Entry, Finished};
@@ -40,38 +40,44 @@ fn write_edge<K: Sink>(
 }
 
 /// Writes the line of the edge that leads up from a router, with its width.
-fn write_child_line<K: Sink>(shown: &Shown, child: u32, sink: &mut K) -> Result<(), Failed>
-    requires within { child < shown.now.sheet.now.net.routers }
+fn write_child_line<K: Sink>(subject: &Subject, child: u32, sink: &mut K) -> Result<(), Failed>
+    requires within { child < subject.now.sheet.now.net.routers }
     ensures puts { Puts K.Sink sink.old sink.new result
-        (child_line shown.now.sheet.now.names shown.now.finished.now.tree child) }
+        (child_line subject.now.sheet.now.names subject.now.finished.now.tree child) }
 {
-    prove!(child < shown.sheet.net().routers());
-    let above = shown.finished.up(child);
-    write_edge(shown.sheet, child, above, shown.finished.width(child), sink)
+    prove!(child < subject.sheet.net().routers());
+    let above = subject.finished.up(child);
+    write_edge(
+        subject.sheet,
+        child,
+        above,
+        subject.finished.width(child),
+        sink,
+    )
 }
 
 /// Writes the line of the edge that leads up from the router, where it is a terminal but not the root.
-fn write_child<K: Sink>(shown: &Shown, router: u32, sink: &mut K) -> Result<(), Failed>
-    requires within { router < shown.now.sheet.now.net.routers }
+fn write_child<K: Sink>(subject: &Subject, router: u32, sink: &mut K) -> Result<(), Failed>
+    requires within { router < subject.now.sheet.now.net.routers }
     ensures puts { Puts K.Sink sink.old sink.new result
-        (child_piece shown.now.sheet.now.names shown.now.finished.now.tree router) }
+        (child_piece subject.now.sheet.now.names subject.now.finished.now.tree router) }
 {
-    let net = shown.sheet.net();
+    let net = subject.sheet.net();
     if net.is_terminal(router) && router != net.root() {
-        write_child_line(shown, router, sink)
+        write_child_line(subject, router, sink)
     } else {
         Ok(())
     }
 }
 
 /// Writes the lines of all edges, in the order of their lower ends.
-fn write_children<K: Sink>(shown: &Shown, sink: &mut K) -> Result<(), Failed>
+fn write_children<K: Sink>(subject: &Subject, sink: &mut K) -> Result<(), Failed>
     ensures puts { Puts K.Sink sink.old sink.new result
-        (concat (map (child_line shown.now.sheet.now.names shown.now.finished.now.tree)
-        (children_of shown.now.finished.now.tree.net))) }
+        (concat (map (child_line subject.now.sheet.now.names subject.now.finished.now.tree)
+        (children_of subject.now.finished.now.tree.net))) }
 {
-    for router in 0..shown.sheet.net().routers() {
-        write_child(shown, router, sink)?;
+    for router in 0..subject.sheet.net().routers() {
+        write_child(subject, router, sink)?;
     }
     Ok(())
 }
@@ -86,34 +92,38 @@ fn edge_count(finished: &Finished) -> u64
 
 /// Writes the tree, behind a first line that tells its number of edges.
 #[tactic(auto, unfolding(crate::specs::Trees::tree_text))]
-pub(crate) fn write_tree<K: Sink>(version: u32, shown: &Shown, sink: &mut K) -> Result<(), Failed>
+pub(crate) fn write_tree<K: Sink>(
+    version: u32,
+    subject: &Subject,
+    sink: &mut K,
+) -> Result<(), Failed>
     ensures puts { Puts K.Sink sink.old sink.new result
-        (tree_text version shown.now.sheet.now shown.now.finished.now.tree) }
+        (tree_text version subject.now.sheet.now subject.now.finished.now.tree) }
 {
-    write_head(version, "TREE", edge_count(shown.finished), sink)?;
-    write_children(shown, sink)
+    write_head(version, "TREE", edge_count(subject.finished), sink)?;
+    write_children(subject, sink)
 }
 
 /// The entry of the commit at a place. The sheet has names for its two routers.
-fn named_entry<'a>(shown: &Shown<'a>, place: u32) -> &'a Entry
-    requires within { place < length shown.now.finished.now.tree.history }
-    ensures value { slice_get shown.now.finished.now.tree.history place ≡ Some result.now }
-    ensures router { result.now.router < length shown.now.sheet.now.names }
-    ensures neighbour { result.now.neighbour < length shown.now.sheet.now.names }
+fn named_entry<'a>(subject: &Subject<'a>, place: u32) -> &'a Entry
+    requires within { place < length subject.now.finished.now.tree.history }
+    ensures value { slice_get subject.now.finished.now.tree.history place ≡ Some result.now }
+    ensures router { result.now.router < length subject.now.sheet.now.names }
+    ensures neighbour { result.now.neighbour < length subject.now.sheet.now.names }
 {
-    prove!(shown.finished.net().routers() == shown.sheet.net().routers());
-    shown.finished.entry(place)
+    prove!(subject.finished.net().routers() == subject.sheet.net().routers());
+    subject.finished.entry(place)
 }
 
 /// Writes the lines of all commits, the oldest first.
-fn write_commits<K: Sink>(shown: &Shown, sink: &mut K) -> Result<(), Failed>
+fn write_commits<K: Sink>(subject: &Subject, sink: &mut K) -> Result<(), Failed>
     ensures puts { Puts K.Sink sink.old sink.new result
-        (concat (map (commit_line shown.now.sheet.now.names) shown.now.finished.now.tree.history)) }
+        (concat (map (commit_line subject.now.sheet.now.names) subject.now.finished.now.tree.history)) }
 {
-    for place in 0..shown.finished.commits() {
-        let entry = named_entry(shown, place);
+    for place in 0..subject.finished.commits() {
+        let entry = named_entry(subject, place);
         write_edge(
-            shown.sheet,
+            subject.sheet,
             entry.router,
             entry.neighbour,
             entry.value,
@@ -125,22 +135,26 @@ fn write_commits<K: Sink>(shown: &Shown, sink: &mut K) -> Result<(), Failed>
 
 /// Writes the run that made the tree, behind a first line that tells its number of commits.
 #[tactic(auto, unfolding(crate::specs::Trees::run_text))]
-pub(crate) fn write_run<K: Sink>(version: u32, shown: &Shown, sink: &mut K) -> Result<(), Failed>
+pub(crate) fn write_run<K: Sink>(
+    version: u32,
+    subject: &Subject,
+    sink: &mut K,
+) -> Result<(), Failed>
     ensures puts { Puts K.Sink sink.old sink.new result
-        (run_text version shown.now.sheet.now shown.now.finished.now.tree) }
+        (run_text version subject.now.sheet.now subject.now.finished.now.tree) }
 {
-    write_head(version, "RUN", edge_count(shown.finished), sink)?;
-    write_commits(shown, sink)
+    write_head(version, "RUN", edge_count(subject.finished), sink)?;
+    write_commits(subject, sink)
 }
 
 /// Writes the lines of the edges that lead up from these routers, in their order.
-fn write_edges<K: Sink>(shown: &Shown, children: &[u32], sink: &mut K) -> Result<(), Failed>
-    requires within { All (λ child. child < shown.now.sheet.now.net.routers) children.now }
+fn write_edges<K: Sink>(subject: &Subject, children: &[u32], sink: &mut K) -> Result<(), Failed>
+    requires within { All (λ child. child < subject.now.sheet.now.net.routers) children.now }
     ensures puts { Puts K.Sink sink.old sink.new result
-        (concat (map (child_line shown.now.sheet.now.names shown.now.finished.now.tree) children.now)) }
+        (concat (map (child_line subject.now.sheet.now.names subject.now.finished.now.tree) children.now)) }
 {
     for child in children {
-        write_child_line(shown, *child, sink)?;
+        write_child_line(subject, *child, sink)?;
     }
     Ok(())
 }
@@ -149,14 +163,14 @@ fn write_edges<K: Sink>(shown: &Shown, children: &[u32], sink: &mut K) -> Result
 #[tactic(auto, unfolding(crate::specs::Trees::path_text))]
 pub(crate) fn write_path<K: Sink>(
     version: u32,
-    shown: &Shown,
+    subject: &Subject,
     children: &[u32],
     sink: &mut K,
 ) -> Result<(), Failed>
-    requires within { All (λ child. child < shown.now.sheet.now.net.routers) children.now }
+    requires within { All (λ child. child < subject.now.sheet.now.net.routers) children.now }
     ensures puts { Puts K.Sink sink.old sink.new result
-        (path_text version shown.now.sheet.now shown.now.finished.now.tree children.now) }
+        (path_text version subject.now.sheet.now subject.now.finished.now.tree children.now) }
 {
     write_head(version, "PATH", children.len() as u64, sink)?;
-    write_edges(shown, children, sink)
+    write_edges(subject, children, sink)
 }

@@ -7,7 +7,7 @@ use Rattle.query_lang.proofs.reports.write_least_cut.Goals as goal
 
 pub prove-unreachable-requires : goal.prove-unreachable-requires
 prove-unreachable-requires g c =
-    let net = c.args.shown.now.sheet.now.net in
+    let net = c.args.subject.now.sheet.now.net in
     let routers = ap (λ (n : Net). n.routers) (c.deref.ensures ∙ c.net.ensures.value) in
     let a_low = terminal-lt net c.args.a c.requires.1 in
     let b_low = terminal-lt net c.args.b c.requires.2 in
@@ -15,10 +15,10 @@ prove-unreachable-requires g c =
 
 pub returns : goal.returns
 returns g c =
-    let sheet = c.args.shown.now.sheet.now in
-    let tree = c.args.shown.now.finished.now.tree in
-    let limits = subst IsInLimits (sym c.args.shown.now.same) c.net.ensures.sheet.limits in
-    let routers = ap (λ (n : Net). n.routers) c.args.shown.now.same in
+    let sheet = c.args.subject.now.sheet.now in
+    let tree = c.args.subject.now.finished.now.tree in
+    let limits = subst IsInLimits (sym c.args.subject.now.same) c.net.ensures.sheet.limits in
+    let routers = ap (λ (n : Net). n.routers) c.args.subject.now.same in
     let a_low = terminal-lt sheet.net c.args.a c.requires.1 in
     let b_low = terminal-lt sheet.net c.args.b c.requires.2 in
     let least = c.least_on_path_uncounted-least in

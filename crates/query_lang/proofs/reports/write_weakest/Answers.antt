@@ -6,9 +6,9 @@ use Rattle.query_lang.proofs.reports.write_weakest.Goals as goal
 
 pub returns : goal.returns
 returns g c =
-    let sheet = c.args.shown.now.sheet.now in
-    let tree = c.args.shown.now.finished.now.tree in
-    let limits = subst IsInLimits (sym c.args.shown.now.same) c.net.ensures.sheet.limits in
+    let sheet = c.args.subject.now.sheet.now in
+    let tree = c.args.subject.now.finished.now.tree in
+    let limits = subst IsInLimits (sym c.args.subject.now.same) c.net.ensures.sheet.limits in
     let least = c.in-Some.least in
     let side = c.side_below-side.result in
     record {

@@ -8,6 +8,6 @@ use Rattle.query_lang.proofs.trees.write_children.Given as goal
 -- The pieces of the routers so far are put.
 abbrev pub invariant-loop-router : goal.invariant-loop-router
 invariant-loop-router g l =
-    let routers = range_with_len 0 l.shown.sheet.now.net.routers in
-    let put = concat (map (child_piece l.shown.sheet.now.names l.shown.finished.now.tree) (take l.router routers)) in
+    let routers = range_with_len 0 l.subject.sheet.now.net.routers in
+    let put = concat (map (child_piece l.subject.sheet.now.names l.subject.finished.now.tree) (take l.router routers)) in
     Puts {E = Failed} g.K.Sink l.fn.sink l.sink (Ok tt) put

@@ -8,5 +8,5 @@ use Rattle.query_lang.proofs.trees.write_commits.Given as goal
 -- The lines of the commits so far are put.
 abbrev pub invariant-loop-place : goal.invariant-loop-place
 invariant-loop-place g l =
-    let put = concat (map (commit_line l.shown.sheet.now.names) (take l.place l.shown.finished.now.tree.history)) in
+    let put = concat (map (commit_line l.subject.sheet.now.names) (take l.place l.subject.finished.now.tree.history)) in
     Puts {E = Failed} g.K.Sink l.fn.sink l.sink (Ok tt) put

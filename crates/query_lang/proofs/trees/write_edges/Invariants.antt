@@ -8,5 +8,5 @@ use Rattle.query_lang.proofs.trees.write_edges.Given as goal
 -- The lines of the routers so far are put.
 abbrev pub invariant-loop-child : goal.invariant-loop-child
 invariant-loop-child g l =
-    let put = concat (map (child_line l.shown.sheet.now.names l.shown.finished.now.tree) (take l.child-index l.children)) in
+    let put = concat (map (child_line l.subject.sheet.now.names l.subject.finished.now.tree) (take l.child-index l.children)) in
     Puts {E = Failed} g.K.Sink l.fn.sink l.sink (Ok tt) put

@@ -10,7 +10,7 @@ unfolding path_text
 returns g c =
     let children = c.args.children.now in
     let first_line = head_text c.args.version (codes "PATH") (length children) in
-    let lines = concat (map (child_line c.args.shown.now.sheet.now.names c.args.shown.now.finished.now.tree) children) in
+    let lines = concat (map (child_line c.args.subject.now.sheet.now.names c.args.subject.now.finished.now.tree) children) in
     record { puts = puts_then first_line lines c.in_ok-write_head.ensures.puts c.write_edges.ensures.puts }
 
 pub returns-in_err-write_head : goal.returns-in_err-write_head
@@ -18,6 +18,6 @@ unfolding path_text
 returns-in_err-write_head g c =
     let children = c.args.children.now in
     let first_line = head_text c.args.version (codes "PATH") (length children) in
-    let lines = concat (map (child_line c.args.shown.now.sheet.now.names c.args.shown.now.finished.now.tree) children) in
+    let lines = concat (map (child_line c.args.subject.now.sheet.now.names c.args.subject.now.finished.now.tree) children) in
     let end = c.from_residual in
     record { puts = puts_failed first_line lines end.result end.ensures.0 c.in_err-write_head.ensures.puts }

@@ -9,7 +9,7 @@ use tree_state::Finished;
 /// A network with the names of its routers, the finished run over it, and the ladder of its tree: the
 /// three belong together.
 #[derive(Drop)]
-pub(crate) struct Shown<'a> {
+pub(crate) struct Subject<'a> {
     pub(crate) sheet: &'a Sheet,
     pub(crate) finished: &'a Finished,
     pub(crate) ladder: &'a Ladder,
