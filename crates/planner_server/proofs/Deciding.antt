@@ -1,12 +1,13 @@
 -- A run that reads nothing took no bytes.
-use Rattle.std.proofs.Common.{◌≡◌, ℕ, ◌^◌, List, ◌++◌, length, Some, sym, ap, ◌∙◌, arith, length-append, inr, refl}
+use Rattle.std.proofs.Common.{◌≡◌, ℕ, List, ◌++◌, length, Some, sym, ap, ◌∙◌, arith, length-append, inr, refl}
 use Rattle.std.specs.declared.option.Option.{Option}
+use Rattle.line_reader.specs.declared.reader.TheConstants.{MOST_BYTES}
 use Rattle.planner_server.specs.Runs.{PlanRan, RunView}
 use Rattle.planner_server.specs.declared.outcome.Status.TheVariants.{NoMemory}
 
 -- where nothing was taken, not many bytes were
 none_taken : (told : Option (List ℕ)) (taken rest : List ℕ) → told ≡ Some (taken ++ rest) → told ≡ Some rest
-    → length taken ≡ 2 ^ 30 → ⊥
+    → length taken ≡ MOST_BYTES → ⊥
 none_taken told taken rest before after many =
     let same : taken ++ rest ≡ rest = (let e : Some (taken ++ rest) ≡ Some rest = sym before ∙ after in cc) in
     omega (arith, ap length same, length-append taken rest)

@@ -1,6 +1,7 @@
 -- What a run of a command leaves.
-use Rattle.std.specs.Prelude.{◌≡◌, ℕ, ◌^◌, ◌<◌, ◌⊎◌, List, [], ◌++◌, length, Bool, true, false, Some}
+use Rattle.std.specs.Prelude.{◌≡◌, ℕ, ◌<◌, ◌⊎◌, List, [], ◌++◌, length, Bool, true, false, Some}
 use Rattle.std.specs.declared.option.Option.{Option}
+use Rattle.line_reader.specs.declared.reader.TheConstants.{MOST_BYTES}
 use Rattle.planner_server.specs.declared.command.Command.{Command}
 use Rattle.planner_server.specs.declared.command.Command.TheVariants.{Plan}
 use Rattle.planner_server.specs.declared.outcome.Status.{Status}
@@ -58,10 +59,10 @@ PlanEnds BadWords run = ⊥
 -- wasn't met, they are too many, unless the sink failed.
 pub record PlanRan (status : Status) (run : RunView) : Type 0 where
   pub ends : PlanEnds status run
-  pub completes : (bytes : List ℕ) → run.left0 ≡ Some bytes → length bytes < 2 ^ 30 → (ReadFailed run → ⊥)
+  pub completes : (bytes : List ℕ) → run.left0 ≡ Some bytes → length bytes < MOST_BYTES → (ReadFailed run → ⊥)
       → (WriteFailed run → ⊥) → (status ≡ Done) ⊎ (status ≡ NoMemory)
   pub always_too_long : (taken rest : List ℕ) → run.left0 ≡ Some (taken ++ rest) → run.left ≡ Some rest
-      → length taken ≡ 2 ^ 30 → run.ended ≡ false → NoBye (items_of false taken) → (WriteFailed run → ⊥)
+      → length taken ≡ MOST_BYTES → run.ended ≡ false → NoBye (items_of false taken) → (WriteFailed run → ⊥)
       → status ≡ TooLong
 
 -- the command was run, ended so, and met and left this

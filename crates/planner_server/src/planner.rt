@@ -4,7 +4,6 @@ ghost use Rattle.std.specs.Prelude.{length, map, IfOk, IfSome};
 ghost use Rattle.std.specs.String.{string_bytes};
 ghost use Rattle.planner_server.specs.Commands.{command_of};
 ghost use Rattle.planner_server.specs.Runs.{PlanRan, Ran};
-ghost use Rattle.planner_server.specs.Shelves.{records_on};
 ghost use Rattle.planner_server.specs.Statuses.{status_of};
 ghost use Rattle.session.specs.declared.session.TheConstants.{MOST_WORKERS};
 ghost use Rattle.tree_versions.specs.Records.{AreCutTrees, AreFinished};
@@ -32,7 +31,7 @@ impl Planner {
     fn make(alloc: Global, workers: u32) -> Result<Planner, NoMemory>
         requires some { 0 < workers }
         requires most { workers ≤ MOST_WORKERS }
-        ensures { IfOk result (λ planner. records_on planner.shelf ≡ []) }
+        ensures { IfOk result (λ planner. planner.shelf.records ≡ []) }
     {
         Ok(Planner {
             session: Session::make(alloc, workers)?,
@@ -75,7 +74,7 @@ fn serve_both<S: Source, K: Sink>(
     source: &mut S,
     sink: &mut K,
 ) -> SessionEnd
-    requires none { records_on shelf.old ≡ [] }
+    requires none { shelf.old.records ≡ [] }
     ensures ran { PlanRan (status_of result) (record {
       left0 = S.left source.old;
       left = S.left source.new;
@@ -86,11 +85,11 @@ fn serve_both<S: Source, K: Sink>(
       written = K.written sink.new;
       write_faults0 = K.write_faults sink.old;
       write_faults = K.write_faults sink.new;
-      records = records_on shelf.new;
+      records = shelf.new.records;
     }) }
-    ensures few { length (records_on shelf.new) ≤ MOST_RECORDS }
-    ensures runs { AreFinished (records_on shelf.new) }
-    ensures trees { AreCutTrees (records_on shelf.new) }
+    ensures few { length shelf.new.records ≤ MOST_RECORDS }
+    ensures runs { AreFinished shelf.new.records }
+    ensures trees { AreCutTrees shelf.new.records }
     ensures read_fault { result ≡ SessionEnd.ReadFault → Rose (S.read_faults source.old) (S.read_faults source.new) }
     ensures write_fault { result ≡ SessionEnd.WriteFault → Rose (K.write_faults sink.old) (K.write_faults sink.new) }
     ensures reads { S.read_faults source.old ≤ S.read_faults source.new }

@@ -1,7 +1,8 @@
 -- A session of few bytes whose peer never fails reads to the end, or to a BYE.
-use Rattle.std.proofs.Common.{◌≡◌, ℕ, ◌^◌, ◌<◌, ◌≤◌, List, length, None, Some, Bool, ap, arith, refl, length-append}
+use Rattle.std.proofs.Common.{◌≡◌, ℕ, ◌<◌, ◌≤◌, List, length, None, Some, Bool, ap, arith, refl, length-append}
 use Rattle.std.specs.Io.KnownBytes.{Consumes}
 use Rattle.std.specs.declared.option.Option.{Option}
+use Rattle.line_reader.specs.declared.reader.TheConstants.{MOST_BYTES}
 use Rattle.session.specs.Turns.{EndsAs}
 use Rattle.session.specs.declared.serve.SessionEnd.{SessionEnd}
 use Rattle.session.specs.declared.serve.SessionEnd.TheVariants.{Done, ReadFault, WriteFault, TooLong}
@@ -20,7 +21,7 @@ taken_fit (Some xs) (Some ys) all bytes is gone =
 pub is_done : (end : SessionEnd) (left0 written0 left : Option (List ℕ)) (ended : Bool) (written : Option (List ℕ))
     (alone : Bool) (seen0 : List RecordView) (published0 : ℕ) (records : List RecordView) (published : ℕ) (all : List ℕ)
     → EndsAs end left0 written0 left ended written alone seen0 published0 records published
-    → left0 ≡ Some all → length all < 2 ^ 30 → (end ≡ ReadFault → ⊥) → (end ≡ WriteFault → ⊥) → end ≡ Done
+    → left0 ≡ Some all → length all < MOST_BYTES → (end ≡ ReadFault → ⊥) → (end ≡ WriteFault → ⊥) → end ≡ Done
 is_done Done left0 written0 left ended written alone seen0 published0 records published all e is few reads puts = refl
 is_done ReadFault left0 written0 left ended written alone seen0 published0 records published all e is few reads puts =
     absurd (reads refl)

@@ -1,9 +1,10 @@
 -- A session that was sent 2^30 bytes, and no BYE among them, ends so.
-use Rattle.std.proofs.Common.{◌≡◌, ℕ, ◌^◌, List, [], ◌∷◌, ◌++◌, length, Some, Bool, true, false, sym, ap, ◌∙◌}
+use Rattle.std.proofs.Common.{◌≡◌, ℕ, List, [], ◌∷◌, ◌++◌, length, Some, Bool, true, false, sym, ap, ◌∙◌}
 use Rattle.std.proofs.Common.{arith, subst, inl, inr, refl}
 use Rattle.std.proofs.lemmas.List.{append_cancel_right}
 use Rattle.std.specs.Io.KnownBytes.{Consumes}
 use Rattle.std.specs.declared.option.Option.{Option}
+use Rattle.line_reader.specs.declared.reader.TheConstants.{MOST_BYTES}
 use Rattle.session.specs.Sessions.{IsComplete}
 use Rattle.session.specs.Turns.{EndsAs}
 use Rattle.session.specs.declared.serve.SessionEnd.{SessionEnd}
@@ -34,7 +35,7 @@ pub always_long : (end : SessionEnd) (told told2 written0 written : Option (List
     (taken rest : List ℕ)
     → EndsAs end told written0 told2 ended written alone seen0 published0 records published
     → told ≡ Some (taken ++ rest) → told2 ≡ Some rest
-    → length taken ≡ 2 ^ 30 → ended ≡ false → NoBye (items_of false taken) → (end ≡ WriteFault → ⊥) → end ≡ TooLong
+    → length taken ≡ MOST_BYTES → ended ≡ false → NoBye (items_of false taken) → (end ≡ WriteFault → ⊥) → end ≡ TooLong
 always_long Done told told2 written0 written ended alone seen0 published0 records published taken rest e before after
     many unmet quiet sound =
     absurd (complete e.why)

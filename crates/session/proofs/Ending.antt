@@ -1,5 +1,5 @@
 -- What one line, or the end of the input, does to a session.
-use Rattle.std.proofs.Common.{◌≡◌, ℕ, ◌^◌, ◌<◌, ◌≤◌, List, [], ◌∷◌, ◌++◌, length, take, None, Some, Bool, true, false}
+use Rattle.std.proofs.Common.{◌≡◌, ℕ, ◌<◌, ◌≤◌, List, [], ◌∷◌, ◌++◌, length, take, None, Some, Bool, true, false}
 use Rattle.std.proofs.Common.{sym, ap, ◌∙◌, arith, append_assoc, subst, inl, inr, length-append}
 use Rattle.std.proofs.lemmas.List.{append-nil}
 use Rattle.std.proofs.KnownBytes.{Appends-trans, Consumes-trans}
@@ -8,6 +8,7 @@ use Rattle.std.specs.Io.KnownBytes.{Consumes, Appends, prepend_known}
 use Rattle.line_reader.specs.Buffered.{Buffered, ahead, IsOpen}
 use Rattle.line_reader.specs.Ends.{IsOver}
 use Rattle.line_reader.specs.Passing.{Goes, Passes}
+use Rattle.line_reader.specs.declared.reader.TheConstants.{MOST_BYTES}
 use Rattle.session.specs.Modes.{next_text, gives, Gives, IsQuiet, IsByeLine, IsServed}
 use Rattle.session.specs.Sessions.{SoFar, Ends, Breaks, IsComplete, EndsWhole}
 use Rattle.session.proofs.Answering.{IsServed-on, Answers-grow, Gives-join, Grows-trans}
@@ -17,30 +18,30 @@ use Rattle.text_forms.specs.Lines.{NoFeed, front_of}
 use Rattle.text_forms.specs.Items.{Item, Bye, NoBye, items_from, items_on, items_of}
 use Rattle.tree_versions.specs.Records.{RecordView}
 
--- bytes that are held were taken too
-Consumes-held : (a left : Option (List ℕ)) (held bytes : List ℕ) → Consumes a (prepend_known held left) bytes
-    → Consumes a left (bytes ++ held)
-Consumes-held None left held bytes p = tt
-Consumes-held (Some u) None held bytes p = absurd p
-Consumes-held (Some u) (Some v) held bytes p = p ∙ sym (append_assoc bytes held v)
+-- bytes that are buffered were taken too
+Consumes-buffered : (a left : Option (List ℕ)) (buffer bytes : List ℕ) → Consumes a (prepend_known buffer left) bytes
+    → Consumes a left (bytes ++ buffer)
+Consumes-buffered None left buffer bytes p = tt
+Consumes-buffered (Some u) None buffer bytes p = absurd p
+Consumes-buffered (Some u) (Some v) buffer bytes p = p ∙ sym (append_assoc bytes buffer v)
 
--- where nothing is held, what was passed is what was taken
-Consumes-spent : (a left : Option (List ℕ)) (held bytes : List ℕ) → held ≡ []
-    → Consumes a (prepend_known held left) bytes → Consumes a left bytes
-Consumes-spent a left held bytes none p = subst (Consumes a left) (ap (λ h. bytes ++ h) none ∙ append-nil bytes)
-    (Consumes-held a left held bytes p)
+-- where nothing is buffered, what was passed is what was taken
+Consumes-spent : (a left : Option (List ℕ)) (buffer bytes : List ℕ) → buffer ≡ []
+    → Consumes a (prepend_known buffer left) bytes → Consumes a left bytes
+Consumes-spent a left buffer bytes none p = subst (Consumes a left) (ap (λ h. bytes ++ h) none ∙ append-nil bytes)
+    (Consumes-buffered a left buffer bytes p)
 
 module _ (alone : Bool) (seen0 : List RecordView) (published0 : ℕ)
-    (left0 written0 left written now after_left : Option (List ℕ)) (ended met : Bool) (held held2 : Buffered)
+    (left0 written0 left written now after_left : Option (List ℕ)) (ended met : Bool) (buffer buffer2 : Buffered)
     (records after : List RecordView) (published published2 : ℕ) (open_text : Option (List (List ℕ)))
-    (s : SoFar alone seen0 published0 left0 written0 held left ended written records published open_text)
-    (most : held2.taken ≤ 2 ^ 30) where
+    (s : SoFar alone seen0 published0 left0 written0 buffer left ended written records published open_text)
+    (most : buffer2.taken ≤ MOST_BYTES) where
   -- the session ends where these items, the last of the whole items, are answered by what was written
   ends_by : (P : List ℕ → List Item → Type 0) (bytes out : List ℕ) (items : List Item)
       → items_of met bytes ≡ s.serves.done ++ items
       → Gives alone records published items out after published2 → Consumes left0 after_left bytes
       → Appends written now out
-      → length bytes ≤ 2 ^ 30 → P bytes (items_of met bytes)
+      → length bytes ≤ MOST_BYTES → P bytes (items_of met bytes)
       → Ends P left0 written0 after_left met now (IsServed alone seen0 published0 after published2)
   ends_by P bytes out items are given gone wrote few why = record {
     bytes = bytes;
@@ -58,7 +59,7 @@ module _ (alone : Bool) (seen0 : List RecordView) (published0 : ℕ)
   breaks_by : (bytes reply : List ℕ) (items behind : List Item) (count : ℕ)
       → items_of met bytes ≡ (s.serves.done ++ items) ++ behind
       → length items ≤ 1 → Gives alone records published items reply after published2 → Consumes left0 after_left bytes
-      → Appends written now (take count reply) → length bytes ≤ 2 ^ 30
+      → Appends written now (take count reply) → length bytes ≤ MOST_BYTES
       → Breaks left0 written0 after_left met now alone seen0 published0 after published2
   breaks_by bytes reply items behind count are one given gone wrote few =
       let a = s.serves.answered in
@@ -88,52 +89,53 @@ module _ (alone : Bool) (seen0 : List RecordView) (published0 : ℕ)
       }
 
   -- what was taken behind a whole line
-  taken_line : (line : List ℕ) → Goes held left held2 after_left (line ++ 10 ∷ [])
-      → Consumes left0 after_left ((s.bytes ++ (line ++ 10 ∷ [])) ++ held2.bytes)
+  taken_line : (line : List ℕ) → Goes buffer left buffer2 after_left (line ++ 10 ∷ [])
+      → Consumes left0 after_left ((s.bytes ++ (line ++ 10 ∷ [])) ++ buffer2.bytes)
   taken_line line goes =
-      Consumes-held left0 after_left held2.bytes (s.bytes ++ (line ++ 10 ∷ []))
-      (Consumes-trans left0 (ahead held left) (ahead held2 after_left) s.bytes (line ++ 10 ∷ []) s.gone
+      Consumes-buffered left0 after_left buffer2.bytes (s.bytes ++ (line ++ 10 ∷ []))
+      (Consumes-trans left0 (ahead buffer left) (ahead buffer2 after_left) s.bytes (line ++ 10 ∷ []) s.gone
       goes.gone)
 
   -- what was taken where no line feed came
-  taken_part : (line : List ℕ) → Passes held left held2 after_left line → Consumes left0 after_left (s.bytes ++ line)
+  taken_part : (line : List ℕ) → Passes buffer left buffer2 after_left line
+      → Consumes left0 after_left (s.bytes ++ line)
   taken_part line passes =
-      Consumes-spent left0 after_left held2.bytes (s.bytes ++ line) passes.spent
-      (Consumes-trans left0 (ahead held left) (ahead held2 after_left) s.bytes line s.gone passes.goes.gone)
+      Consumes-spent left0 after_left buffer2.bytes (s.bytes ++ line) passes.spent
+      (Consumes-trans left0 (ahead buffer left) (ahead buffer2 after_left) s.bytes line s.gone passes.goes.gone)
 
   -- behind a whole line no more than 2^30 bytes were taken
-  line_fits : (line : List ℕ) → Goes held left held2 after_left (line ++ 10 ∷ [])
-      → length ((s.bytes ++ (line ++ 10 ∷ [])) ++ held2.bytes) ≤ 2 ^ 30
+  line_fits : (line : List ℕ) → Goes buffer left buffer2 after_left (line ++ 10 ∷ [])
+      → length ((s.bytes ++ (line ++ 10 ∷ [])) ++ buffer2.bytes) ≤ MOST_BYTES
   line_fits line goes = omega (
     arith,
     s.count,
     goes.count,
     most,
     length-append s.bytes (line ++ 10 ∷ []),
-    length-append (s.bytes ++ (line ++ 10 ∷ [])) held2.bytes,
+    length-append (s.bytes ++ (line ++ 10 ∷ [])) buffer2.bytes,
   )
 
   -- and so where no line feed came
-  part_fits : (line : List ℕ) → Passes held left held2 after_left line → length (s.bytes ++ line) ≤ 2 ^ 30
+  part_fits : (line : List ℕ) → Passes buffer left buffer2 after_left line → length (s.bytes ++ line) ≤ MOST_BYTES
   part_fits line passes =
       omega (arith, s.count, passes.goes.count, most, ap length passes.spent, length-append s.bytes line)
 
   -- and where nothing more came
-  end_fits : Passes held left held2 after_left [] → length s.bytes ≤ 2 ^ 30
+  end_fits : Passes buffer left buffer2 after_left [] → length s.bytes ≤ MOST_BYTES
   end_fits passes = omega (arith, s.count, passes.goes.count, most, ap length passes.spent)
 
   -- a whole line that is no BYE was answered
-  pub whole_line : (line front out : List ℕ) → NoFeed line → Goes held left held2 after_left (line ++ 10 ∷ [])
+  pub whole_line : (line front out : List ℕ) → NoFeed line → Goes buffer left buffer2 after_left (line ++ 10 ∷ [])
       → front ≡ front_of line
-      → (IsOpen held ended → IsOpen held2 met) → IsQuiet open_text front
+      → (IsOpen buffer ended → IsOpen buffer2 met) → IsQuiet open_text front
       → Gives alone records published (gives open_text front) out after published2 → Appends written now out
-      → SoFar alone seen0 published0 left0 written0 held2 after_left met now after published2 (next_text open_text
+      → SoFar alone seen0 published0 left0 written0 buffer2 after_left met now after published2 (next_text open_text
       front)
   whole_line line front out clean goes is opens quiet given wrote =
       let quiet' : IsQuiet open_text (front_of line) = subst (IsQuiet open_text) is quiet in
       let given' = subst (λ (f : List ℕ). Gives alone records published (gives open_text f) out after published2) is
       given in
-      subst (λ (f : List ℕ). SoFar alone seen0 published0 left0 written0 held2 after_left met now after published2
+      subst (λ (f : List ℕ). SoFar alone seen0 published0 left0 written0 buffer2 after_left met now after published2
       (next_text open_text f)) (sym is)
       (record {
         bytes = s.bytes ++ (line ++ 10 ∷ []);
@@ -141,7 +143,7 @@ module _ (alone : Bool) (seen0 : List RecordView) (published0 : ℕ)
         serves = goes_on alone seen0 published0 s.bytes s.text records published open_text s.serves after published2
             line out clean
             quiet' given';
-        gone = Consumes-trans left0 (ahead held left) (ahead held2 after_left) s.bytes (line ++ 10 ∷ []) s.gone
+        gone = Consumes-trans left0 (ahead buffer left) (ahead buffer2 after_left) s.bytes (line ++ 10 ∷ []) s.gone
             goes.gone;
         count = omega (arith, s.count, goes.count, length-append s.bytes (line ++ 10 ∷ []));
         unmet = opens s.unmet;
@@ -150,21 +152,22 @@ module _ (alone : Bool) (seen0 : List RecordView) (published0 : ℕ)
 
   -- the reply to a whole line that is no BYE was begun
   pub whole_line_breaks : (line front out : List ℕ) (count : ℕ) → NoFeed line
-      → Goes held left held2 after_left (line ++ 10 ∷ []) → front ≡ front_of line
+      → Goes buffer left buffer2 after_left (line ++ 10 ∷ []) → front ≡ front_of line
       → IsQuiet open_text front → Gives alone records published (gives open_text front) out after published2
       → Appends written now (take count out)
       → Breaks left0 written0 after_left met now alone seen0 published0 after published2
   whole_line_breaks line front out count clean goes is quiet given wrote =
-      breaks_by ((s.bytes ++ (line ++ 10 ∷ [])) ++ held2.bytes) out (gives open_text (front_of line))
-      (items_on met (next_text open_text (front_of line)) held2.bytes) count
-      (line_items alone seen0 published0 s.bytes s.text records published open_text s.serves met line held2.bytes clean
+      breaks_by ((s.bytes ++ (line ++ 10 ∷ [])) ++ buffer2.bytes) out (gives open_text (front_of line))
+      (items_on met (next_text open_text (front_of line)) buffer2.bytes) count
+      (line_items alone seen0 published0 s.bytes s.text records published open_text s.serves met line buffer2.bytes
+      clean
       (subst (IsQuiet open_text) is quiet))
       (gives-one open_text (front_of line))
       (subst (λ (f : List ℕ). Gives alone records published (gives open_text f) out after published2) is given)
       (taken_line line goes) wrote (line_fits line goes)
 
   -- the input ended between two lines, and what is owed then was written
-  pub end_whole : (owed : List ℕ) → Passes held left held2 after_left [] → IsOver met after_left
+  pub end_whole : (owed : List ℕ) → Passes buffer left buffer2 after_left [] → IsOver met after_left
       → Gives alone records published (items_from true open_text []) owed after published2
       → Appends written now owed → EndsWhole left0 written0 after_left met now alone seen0 published0 after published2
   end_whole owed passes over given wrote =
@@ -175,7 +178,7 @@ module _ (alone : Bool) (seen0 : List RecordView) (published0 : ℕ)
       (inr over)
 
   -- and a part of it was written
-  pub end_breaks : (owed : List ℕ) (count : ℕ) → Passes held left held2 after_left [] → IsOver met after_left
+  pub end_breaks : (owed : List ℕ) (count : ℕ) → Passes buffer left buffer2 after_left [] → IsOver met after_left
       → Gives alone records published (items_from true open_text []) owed after published2
       → Appends written now (take count owed)
       → Breaks left0 written0 after_left met now alone seen0 published0 after published2
@@ -188,7 +191,7 @@ module _ (alone : Bool) (seen0 : List RecordView) (published0 : ℕ)
       (end_fits passes)
 
   -- the reply to the last line, which has no line feed, was begun
-  pub last_line_breaks : (line front out : List ℕ) (count : ℕ) → Passes held left held2 after_left line
+  pub last_line_breaks : (line front out : List ℕ) (count : ℕ) → Passes buffer left buffer2 after_left line
       → 0 < length line → front ≡ front_of line → IsOver met after_left
       → IsQuiet open_text front → Gives alone records published (gives open_text front) out after published2
       → Appends written now (take count out)
@@ -207,16 +210,16 @@ module _ (alone : Bool) (seen0 : List RecordView) (published0 : ℕ)
       wrote (part_fits (b ∷ line) passes)
 
   -- a part of a line came, and no more
-  pub stops : (P : List ℕ → List Item → Type 0) (line : List ℕ) → Passes held left held2 after_left line
+  pub stops : (P : List ℕ → List Item → Type 0) (line : List ℕ) → Passes buffer left buffer2 after_left line
       → met ≡ false → Appends written now [] → Gives alone records published [] [] after published2
-      → (length (s.bytes ++ line) ≡ held2.taken → NoBye s.serves.done → P (s.bytes ++ line) s.serves.done)
+      → (length (s.bytes ++ line) ≡ buffer2.taken → NoBye s.serves.done → P (s.bytes ++ line) s.serves.done)
       → Ends P left0 written0 after_left met now (IsServed alone seen0 published0 after published2)
   stops P line passes unmet wrote given why =
       let items : items_of met (s.bytes ++ line) ≡ s.serves.done =
       ap (λ e. items_of e (s.bytes ++ line)) unmet ∙ stops_items alone seen0 published0 s.bytes s.text records published
       open_text s.serves line
       passes.clean in
-      let count : length (s.bytes ++ line) ≡ held2.taken =
+      let count : length (s.bytes ++ line) ≡ buffer2.taken =
       omega (arith, s.count, passes.goes.count, ap length passes.spent, length-append s.bytes line) in
       ends_by P (s.bytes ++ line) [] [] (items ∙ sym (append-nil s.serves.done))
       given
@@ -225,7 +228,7 @@ module _ (alone : Bool) (seen0 : List RecordView) (published0 : ℕ)
 
   -- the last line, which has no line feed, was answered, and what is owed then was written
   pub last_line_ends : (mid : List RecordView) (published1 : ℕ) (line front out owed : List ℕ)
-      → Passes held left held2 after_left line
+      → Passes buffer left buffer2 after_left line
       → 0 < length line
       → front ≡ front_of line → IsOver met after_left → IsQuiet open_text front
       → Gives alone records published (gives open_text front) out mid published1
@@ -250,7 +253,7 @@ module _ (alone : Bool) (seen0 : List RecordView) (published0 : ℕ)
 
   -- the last line was answered, and only a part of what is owed then was written
   pub closing_breaks : (mid : List RecordView) (published1 : ℕ) (line front out owed : List ℕ) (count : ℕ)
-      → Passes held left held2 after_left line → 0 < length line
+      → Passes buffer left buffer2 after_left line → 0 < length line
       → front ≡ front_of line → IsOver met after_left → IsQuiet open_text front
       → Gives alone records published (gives open_text front) out mid published1
       → Gives alone mid published1 (items_from true (next_text open_text front) []) owed after published2
@@ -295,18 +298,18 @@ module _ (alone : Bool) (seen0 : List RecordView) (published0 : ℕ)
       }
 
 module _ (alone : Bool) (seen0 : List RecordView) (published0 : ℕ)
-    (left0 written0 left written now after_left : Option (List ℕ)) (ended met : Bool) (held held2 : Buffered)
+    (left0 written0 left written now after_left : Option (List ℕ)) (ended met : Bool) (buffer buffer2 : Buffered)
     (records after : List RecordView) (published published2 : ℕ) (reply : List ℕ)
-    (s : SoFar alone seen0 published0 left0 written0 held left ended written records published None)
-    (given : Gives alone records published (Bye ∷ []) reply after published2) (most : held2.taken ≤ 2 ^ 30) where
+    (s : SoFar alone seen0 published0 left0 written0 buffer left ended written records published None)
+    (given : Gives alone records published (Bye ∷ []) reply after published2) (most : buffer2.taken ≤ MOST_BYTES) where
   -- the items of a whole line BYE
   line_bye : (line front : List ℕ) → NoFeed line → front ≡ front_of line → IsByeLine front
-      → items_of met ((s.bytes ++ (line ++ 10 ∷ [])) ++ held2.bytes) ≡ s.serves.done ++ Bye ∷ []
+      → items_of met ((s.bytes ++ (line ++ 10 ∷ [])) ++ buffer2.bytes) ≡ s.serves.done ++ Bye ∷ []
   line_bye line front clean is bye =
-      let joined : (s.bytes ++ (line ++ 10 ∷ [])) ++ held2.bytes ≡ s.bytes ++ (line ++ 10 ∷ held2.bytes) =
+      let joined : (s.bytes ++ (line ++ 10 ∷ [])) ++ buffer2.bytes ≡ s.bytes ++ (line ++ 10 ∷ buffer2.bytes) =
       simp append_assoc in
       ap (items_of met) joined ∙ bye_items alone seen0 published0 s.bytes s.text records published s.serves met line
-      held2.bytes
+      buffer2.bytes
       clean
       (subst IsByeLine is bye)
 
@@ -321,21 +324,23 @@ module _ (alone : Bool) (seen0 : List RecordView) (published0 : ℕ)
       clean (subst IsByeLine is bye)
 
   -- a whole line BYE was answered
-  pub bye_ends : (line front : List ℕ) → NoFeed line → Goes held left held2 after_left (line ++ 10 ∷ [])
+  pub bye_ends : (line front : List ℕ) → NoFeed line → Goes buffer left buffer2 after_left (line ++ 10 ∷ [])
       → front ≡ front_of line → IsByeLine front
       → Appends written now reply → EndsWhole left0 written0 after_left met now alone seen0 published0 after published2
   bye_ends line front clean goes is bye wrote =
-      ends_by alone seen0 published0 left0 written0 left written now after_left ended met held held2 records after
+      ends_by alone seen0 published0 left0 written0 left written now after_left ended met buffer buffer2 records after
       published published2
       None s most
       (IsComplete met after_left)
-      ((s.bytes ++ (line ++ 10 ∷ [])) ++ held2.bytes) reply (Bye ∷ [])
+      ((s.bytes ++ (line ++ 10 ∷ [])) ++ buffer2.bytes) reply (Bye ∷ [])
       (line_bye line front clean is bye) given
-      (taken_line alone seen0 published0 left0 written0 left written now after_left ended met held held2 records after
+      (taken_line alone seen0 published0 left0 written0 left written now after_left ended met buffer buffer2 records
+      after
       published
       published2
       None s most line goes) wrote
-      (line_fits alone seen0 published0 left0 written0 left written now after_left ended met held held2 records after
+      (line_fits alone seen0 published0 left0 written0 left written now after_left ended met buffer buffer2 records
+      after
       published
       published2
       None s most line goes)
@@ -343,68 +348,74 @@ module _ (alone : Bool) (seen0 : List RecordView) (published0 : ℕ)
 
   -- and its reply was begun
   pub bye_breaks : (line front : List ℕ) (count : ℕ) → NoFeed line
-      → Goes held left held2 after_left (line ++ 10 ∷ []) → front ≡ front_of line → IsByeLine front
+      → Goes buffer left buffer2 after_left (line ++ 10 ∷ []) → front ≡ front_of line → IsByeLine front
       → Appends written now (take count reply) → Breaks left0 written0 after_left met now alone seen0 published0 after
       published2
   bye_breaks line front count clean goes is bye wrote =
-      breaks_by alone seen0 published0 left0 written0 left written now after_left ended met held held2 records after
+      breaks_by alone seen0 published0 left0 written0 left written now after_left ended met buffer buffer2 records after
       published
       published2
       None s most
-      ((s.bytes ++ (line ++ 10 ∷ [])) ++ held2.bytes) reply (Bye ∷ []) [] count
+      ((s.bytes ++ (line ++ 10 ∷ [])) ++ buffer2.bytes) reply (Bye ∷ []) [] count
       (line_bye line front clean is bye ∙ sym (append-nil (s.serves.done ++ Bye ∷ []))) (omega arith) given
-      (taken_line alone seen0 published0 left0 written0 left written now after_left ended met held held2 records after
+      (taken_line alone seen0 published0 left0 written0 left written now after_left ended met buffer buffer2 records
+      after
       published
       published2
       None s most line goes) wrote
-      (line_fits alone seen0 published0 left0 written0 left written now after_left ended met held held2 records after
+      (line_fits alone seen0 published0 left0 written0 left written now after_left ended met buffer buffer2 records
+      after
       published
       published2
       None s most line goes)
 
   -- a BYE that the end of the input ends was answered
-  pub last_bye_ends : (line front : List ℕ) → Passes held left held2 after_left line → 0 < length line
+  pub last_bye_ends : (line front : List ℕ) → Passes buffer left buffer2 after_left line → 0 < length line
       → front ≡ front_of line → IsOver met after_left → IsByeLine front
       → Appends written now reply → EndsWhole left0 written0 after_left met now alone seen0 published0 after published2
   last_bye_ends [] front passes some is over bye wrote = absurd (omega arith)
   last_bye_ends (b ∷ line) front passes some is over bye wrote =
-      ends_by alone seen0 published0 left0 written0 left written now after_left ended met held held2 records after
+      ends_by alone seen0 published0 left0 written0 left written now after_left ended met buffer buffer2 records after
       published published2
       None s most
       (IsComplete met after_left)
       (s.bytes ++ b ∷ line) reply (Bye ∷ []) (last_bye b line front passes.clean is over bye)
       given
-      (taken_part alone seen0 published0 left0 written0 left written now after_left ended met held held2 records after
+      (taken_part alone seen0 published0 left0 written0 left written now after_left ended met buffer buffer2 records
+      after
       published
       published2
       None s most (b ∷ line)
       passes) wrote
-      (part_fits alone seen0 published0 left0 written0 left written now after_left ended met held held2 records after
+      (part_fits alone seen0 published0 left0 written0 left written now after_left ended met buffer buffer2 records
+      after
       published
       published2
       None s most (b ∷ line) passes)
       (inl (s.serves.done, last_bye b line front passes.clean is over bye))
 
   -- and its reply was begun
-  pub last_bye_breaks : (line front : List ℕ) (count : ℕ) → Passes held left held2 after_left line → 0 < length line
+  pub last_bye_breaks : (line front : List ℕ) (count : ℕ) → Passes buffer left buffer2 after_left line → 0 < length line
       → front ≡ front_of line → IsOver met after_left → IsByeLine front
       → Appends written now (take count reply) → Breaks left0 written0 after_left met now alone seen0 published0 after
       published2
   last_bye_breaks [] front count passes some is over bye wrote = absurd (omega arith)
   last_bye_breaks (b ∷ line) front count passes some is over bye wrote =
-      breaks_by alone seen0 published0 left0 written0 left written now after_left ended met held held2 records after
+      breaks_by alone seen0 published0 left0 written0 left written now after_left ended met buffer buffer2 records after
       published
       published2
       None s most
       (s.bytes ++ b ∷ line) reply (Bye ∷ []) [] count
       (last_bye b line front passes.clean is over bye ∙ sym (append-nil (s.serves.done ++ Bye ∷ []))) (omega arith)
       given
-      (taken_part alone seen0 published0 left0 written0 left written now after_left ended met held held2 records after
+      (taken_part alone seen0 published0 left0 written0 left written now after_left ended met buffer buffer2 records
+      after
       published
       published2
       None s most (b ∷ line)
       passes) wrote
-      (part_fits alone seen0 published0 left0 written0 left written now after_left ended met held held2 records after
+      (part_fits alone seen0 published0 left0 written0 left written now after_left ended met buffer buffer2 records
+      after
       published
       published2
       None s most (b ∷ line) passes)

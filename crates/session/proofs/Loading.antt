@@ -19,7 +19,7 @@ use Rattle.session.proofs.Answering.{look_leads, Gives-one, Gives-still}
 use Rattle.text_forms.specs.Items.{Item, Load}
 use Rattle.text_forms.specs.Words.{is_end}
 use Rattle.tree_versions.specs.Records.{RecordView}
-use Rattle.tree_versions.specs.Shelves.{Looks, IsPublishedAt, IsFull}
+use Rattle.tree_versions.specs.Shelves.{Looks, IsFull, IsPublishedAt}
 use Rattle.tree_versions.specs.declared.shelf.TheConstants.{MOST_RECORDS}
 
 module _ (alone : Bool) (old new : List RecordView) (published published2 : ℕ) (reply : List ℕ)

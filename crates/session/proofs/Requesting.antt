@@ -5,8 +5,7 @@ use Rattle.std.specs.declared.option.Option.{Option}
 use Rattle.query_lang.specs.Replies.{bye_text}
 use Rattle.query_lang.specs.Requests.{request_of}
 use Rattle.query_lang.specs.declared.request.Request.{Request}
-use Rattle.query_lang.specs.declared.request.Request.TheVariants.{Nothing, Load, Cut, Path, Tree}
-use Rattle.query_lang.specs.declared.request.Request.TheVariants.{Run, Net, Weakest, Bye}
+use Rattle.query_lang.specs.declared.request.Request.TheVariants.{Nothing, Load, Bye}
 use Rattle.query_lang.specs.declared.request.RequestFault.{RequestFault}
 use Rattle.query_lang.proofs.RequestKinds.{IsOther, answer_kind, other_asks, report-needs}
 use Rattle.session.specs.Answers.{IsReply, RepliesTo, Step, sheet_in}

@@ -1,9 +1,10 @@
 -- A session so far, and one that has ended.
-use Rattle.std.specs.Prelude.{◌≡◌, ℕ, ◌+◌, ◌^◌, ◌<◌, ◌≤◌, ◌⊎◌, take, List, ◌∷◌, [], ◌++◌, length, Bool, false}
+use Rattle.std.specs.Prelude.{◌≡◌, ℕ, ◌+◌, ◌<◌, ◌≤◌, ◌⊎◌, take, List, ◌∷◌, [], ◌++◌, length, Bool, false}
 use Rattle.std.specs.Io.KnownBytes.{Consumes, Appends}
 use Rattle.std.specs.declared.option.Option.{Option}
 use Rattle.line_reader.specs.Buffered.{Buffered, ahead, IsOpen}
 use Rattle.line_reader.specs.Ends.{IsOver}
+use Rattle.line_reader.specs.declared.reader.TheConstants.{MOST_BYTES}
 use Rattle.session.specs.Answers.{Answers}
 use Rattle.session.specs.Modes.{IsReached, IsServed, Serves}
 use Rattle.text_forms.specs.Items.{Item, Bye, NoBye, items_of}
@@ -13,15 +14,15 @@ use Rattle.tree_versions.specs.Records.{RecordView, Grows}
 -- what the source had left and the sink had written then, `seen0` are the records that were seen and `own0` is how many
 -- were published.
 pub record SoFar (alone : Bool) (seen0 : List RecordView) (published0 : ℕ) (left0 written0 : Option (List ℕ))
-    (held : Buffered)
+    (buffer : Buffered)
     (left : Option (List ℕ)) (ended : Bool) (written : Option (List ℕ)) (records : List RecordView) (published : ℕ)
     (open_text : Option (List (List ℕ))) : Type 0 where
   pub bytes : List ℕ
   pub text : List ℕ
   pub serves : Serves alone seen0 published0 bytes text records published open_text
-  pub gone : Consumes left0 (ahead held left) bytes
-  pub count : held.taken ≡ length bytes + length held.bytes
-  pub unmet : IsOpen held ended
+  pub gone : Consumes left0 (ahead buffer left) bytes
+  pub count : buffer.taken ≡ length bytes + length buffer.bytes
+  pub unmet : IsOpen buffer ended
   pub wrote : Appends written0 written text
 
 -- The text that was written answers the whole items of the bytes that were taken, as `Serving` says, and P holds of
@@ -34,7 +35,7 @@ pub record Ends (P : List ℕ → List Item → Type 0) (left0 written0 left : O
   pub gone : Consumes left0 left bytes
   pub wrote : Appends written0 written text
   pub why : P bytes (items_of ended bytes)
-  pub most : length bytes ≤ 2 ^ 30
+  pub most : length bytes ≤ MOST_BYTES
 
 -- the last item is a BYE, or the end of the input was met and no byte that the source tells of is left
 abbrev pub IsComplete : Bool → Option (List ℕ) → List ℕ → List Item → Type 0
@@ -42,11 +43,11 @@ IsComplete ended left bytes items = ((front : List Item) × (items ≡ front ++ 
 
 -- 2^30 bytes were taken, the end wasn't met, and no BYE is among the items
 abbrev pub IsTooLong : Bool → List ℕ → List Item → Type 0
-IsTooLong ended bytes items = (length bytes ≡ 2 ^ 30) × (ended ≡ false) × NoBye items
+IsTooLong ended bytes items = (length bytes ≡ MOST_BYTES) × (ended ≡ false) × NoBye items
 
 -- fewer bytes were taken, the end wasn't met, and no BYE is among the items
 abbrev pub IsCutShort : Bool → List ℕ → List Item → Type 0
-IsCutShort ended bytes items = (length bytes < 2 ^ 30) × (ended ≡ false) × NoBye items
+IsCutShort ended bytes items = (length bytes < MOST_BYTES) × (ended ≡ false) × NoBye items
 
 -- The text that was written answers a front of the whole items of the bytes that were taken, but for a part of the
 -- reply to the last of them. No more than 2^30 bytes were taken.
@@ -72,7 +73,7 @@ pub record Breaks (left0 written0 left : Option (List ℕ)) (ended : Bool) (writ
   pub counted : published ≡ published0 + (loads + loaded)
   pub gone : Consumes left0 left bytes
   pub wrote : Appends written0 written (text ++ take count reply)
-  pub most : length bytes ≤ 2 ^ 30
+  pub most : length bytes ≤ MOST_BYTES
 
 -- a session that read to its end, or to a BYE
 abbrev pub EndsWhole : Option (List ℕ) → Option (List ℕ) → Option (List ℕ) → Bool → Option (List ℕ) → Bool

@@ -72,12 +72,12 @@ pub record Closed {E : Type 0} (alone : Bool) (old : List RecordView) (published
 
 -- a session so far, with the text that is open
 pub record GoesOn (alone : Bool) (seen0 : List RecordView) (published0 : ℕ) (left0 written0 : Option (List ℕ))
-    (held : Buffered)
+    (buffer : Buffered)
     (left : Option (List ℕ)) (ended : Bool) (written : Option (List ℕ)) (records : List RecordView) (published : ℕ)
     (intake : Intake) : Type 0 where
   pub open_text : Option (List (List ℕ))
   pub left_open : HasOpen intake open_text
-  pub so_far : SoFar alone seen0 published0 left0 written0 held left ended written records published open_text
+  pub so_far : SoFar alone seen0 published0 left0 written0 buffer left ended written records published open_text
 
 -- how a session ends
 abbrev pub EndsAs : SessionEnd → Option (List ℕ) → Option (List ℕ) → Option (List ℕ) → Bool → Option (List ℕ) → Bool
@@ -92,9 +92,10 @@ EndsAs TooLong left0 written0 left ended written alone seen0 published0 records 
     EndsLong left0 written0 left ended written alone seen0 published0 records published
 
 -- the session goes on, or has ended
-abbrev pub TurnGives : Bool → List RecordView → ℕ → Option (List ℕ) → Option (List ℕ) → Buffered → Option (List ℕ) → Bool
+abbrev pub TurnGives : Bool → List RecordView → ℕ → Option (List ℕ) → Option (List ℕ) → Buffered → Option (List ℕ)
+    → Bool
     → Option (List ℕ) → List RecordView → ℕ → Intake → Option SessionEnd → Type 0
-TurnGives alone seen0 published0 left0 written0 held left ended written records published intake None =
-    GoesOn alone seen0 published0 left0 written0 held left ended written records published intake
-TurnGives alone seen0 published0 left0 written0 held left ended written records published intake (Some end) =
+TurnGives alone seen0 published0 left0 written0 buffer left ended written records published intake None =
+    GoesOn alone seen0 published0 left0 written0 buffer left ended written records published intake
+TurnGives alone seen0 published0 left0 written0 buffer left ended written records published intake (Some end) =
     EndsAs end left0 written0 left ended written alone seen0 published0 records published

@@ -5,6 +5,7 @@ ghost use Rattle.std.specs.declared.option.Option.{Option};
 ghost use Rattle.line_reader.specs.Passing.{Passes, Reads};
 ghost use Rattle.line_reader.specs.Buffered.{Buffered, IsOpen};
 ghost use Rattle.line_reader.specs.Ends.{IsOver};
+ghost use Rattle.line_reader.specs.declared.reader.TheConstants.{MOST_BYTES};
 ghost use Rattle.session.specs.Sessions.{Breaks, EndsWhole};
 ghost use Rattle.session.specs.Taking.{HasOpen, lines_in};
 ghost use Rattle.session.specs.Turns.{Closed, EndsAs, GoesOn, LineAnswered, TurnGives};
@@ -43,7 +44,7 @@ fn read_line<P: Peer>(
         result }
     ensures open { IsOpen reader.old (P.ended peer.old) → (result ≡ Ok Next.Whole) ⊎ (result ≡ Ok Next.TooMuch)
         → IsOpen reader.new (P.ended peer.new) }
-    ensures most { reader.old.taken ≤ 2 ^ 30 → reader.new.taken ≤ 2 ^ 30 }
+    ensures most { reader.old.taken ≤ MOST_BYTES → reader.new.taken ≤ MOST_BYTES }
     ensures cause { HasCause (P.read_faults peer.old) (P.read_faults peer.new) result }
     ensures written { P.written peer.new ≡ P.written peer.old }
     ensures faults { P.write_faults peer.new ≡ P.write_faults peer.old }
@@ -74,8 +75,8 @@ fn answer_line<H: Shelf, P: Peer>(
 ) -> Result<bool, Failed>
     requires few { lines_in state.old.intake < 2 ^ 31 }
     ensures answered { (open_text : Option (List (List ℕ))) → HasOpen state.old.intake open_text
-        → LineAnswered (H.alone shelf.old) (H.seen shelf.old) (H.published shelf.old) (H.seen shelf.new) (H.published shelf.new)
-        open_text state.new.intake line.now (P.written peer.old) (P.written peer.new) result }
+        → LineAnswered (H.alone shelf.old) (H.seen shelf.old) (H.published shelf.old) (H.seen shelf.new)
+        (H.published shelf.new) open_text state.new.intake line.now (P.written peer.old) (P.written peer.new) result }
     ensures lines { lines_in state.new.intake ≤ lines_in state.old.intake + 1 }
     ensures alone { H.alone shelf.new ≡ H.alone shelf.old }
     ensures cause { HasCause (P.write_faults peer.old) (P.write_faults peer.new) result }
@@ -105,8 +106,8 @@ fn close_input<H: Shelf, P: Peer>(
 ) -> Result<(), Failed>
     requires few { lines_in state.old.intake < 2 ^ 31 }
     ensures closed { (open_text : Option (List (List ℕ))) → HasOpen state.old.intake open_text
-        → Closed (H.alone shelf.old) (H.seen shelf.old) (H.published shelf.old) (H.seen shelf.new) (H.published shelf.new)
-        open_text (P.written peer.old) (P.written peer.new) result }
+        → Closed (H.alone shelf.old) (H.seen shelf.old) (H.published shelf.old) (H.seen shelf.new)
+        (H.published shelf.new) open_text (P.written peer.old) (P.written peer.new) result }
     ensures alone { H.alone shelf.new ≡ H.alone shelf.old }
     ensures cause { HasCause (P.write_faults peer.old) (P.write_faults peer.new) result }
     ensures left { P.left peer.new ≡ P.left peer.old }
@@ -131,11 +132,11 @@ fn answer_last<H: Shelf, P: Peer>(
 ) -> Result<(), Failed>
     requires few { lines_in state.old.intake + 1 < 2 ^ 31 }
     ensures ends { (seen0 : List RecordView) (published0 : ℕ) (left0 written0 left after : Option (List ℕ))
-        (held held2 : Buffered)
+        (buffer buffer2 : Buffered)
         (ended met : Bool) (l : List ℕ)
-        → GoesOn (H.alone shelf.old) seen0 published0 left0 written0 held left ended (P.written peer.old)
+        → GoesOn (H.alone shelf.old) seen0 published0 left0 written0 buffer left ended (P.written peer.old)
         (H.seen shelf.old) (H.published shelf.old) state.old.intake
-        → held2.taken ≤ 2 ^ 30 → Passes held left held2 after l → 0 < length l
+        → buffer2.taken ≤ MOST_BYTES → Passes buffer left buffer2 after l → 0 < length l
         → line.now ≡ front_of l → IsOver met after
         → MatchResult result
         (λ _. EndsWhole left0 written0 after met (P.written peer.new) (H.alone shelf.old) seen0 published0
@@ -165,7 +166,7 @@ fn turn<H: Shelf, P: Peer>(
     shelf: &mut H,
     peer: &mut P,
 ) -> Option<SessionEnd>
-    requires budget { reader.old.taken ≤ 2 ^ 30 }
+    requires budget { reader.old.taken ≤ MOST_BYTES }
     requires counted { lines_in state.old.intake + length reader.old.bytes ≤ reader.old.taken }
     ensures gives { (seen0 : List RecordView) (published0 : ℕ) (left0 written0 : Option (List ℕ))
         → GoesOn (H.alone shelf.old) seen0 published0 left0 written0 reader.old (P.left peer.old) (P.ended peer.old)
@@ -179,10 +180,10 @@ fn turn<H: Shelf, P: Peer>(
     ensures reads { P.read_faults peer.old ≤ P.read_faults peer.new }
     ensures writes { P.write_faults peer.old ≤ P.write_faults peer.new }
     ensures beside { P.beside_peer peer.new ≡ P.beside_peer peer.old }
-    ensures budget { reader.new.taken ≤ 2 ^ 30 }
+    ensures budget { reader.new.taken ≤ MOST_BYTES }
     ensures counted { result ≡ None → lines_in state.new.intake + length reader.new.bytes ≤ reader.new.taken }
-    ensures goes { result ≡ None → (2 ^ 30 + length reader.new.bytes) - reader.new.taken
-        < (2 ^ 30 + length reader.old.bytes) - reader.old.taken }
+    ensures goes { result ≡ None → (MOST_BYTES + length reader.new.bytes) - reader.new.taken
+        < (MOST_BYTES + length reader.old.bytes) - reader.old.taken }
 {
     match read_line(reader, line, peer) {
         Ok(Next::Whole) => match answer_line(alloc, state, shelf, line.bytes(), peer) {

@@ -1,5 +1,6 @@
 //! A session: its scratch, and the call that serves one peer.
 ghost use Rattle.std.specs.Prelude.{◌≡◌, ◌≤◌, ◌<◌, ◌^◌, ◌++◌, ℕ, List, Some, false, length};
+ghost use Rattle.line_reader.specs.declared.reader.TheConstants.{MOST_BYTES};
 ghost use Rattle.session.specs.Turns.{EndsAs};
 ghost use Rattle.session.specs.declared.session.TheConstants.{MOST_WORKERS};
 ghost use Rattle.text_forms.specs.Items.{NoBye, items_of};
@@ -65,13 +66,13 @@ pub fn serve_session<H: Shelf, P: Peer>(
     ensures alone { H.alone shelf.new ≡ H.alone shelf.old }
 
     // Where the peer tells that it has fewer than 2^30 bytes left, and doesn't fail, the session is done.
-    ensures completes { (bytes : List ℕ) → P.left peer.old ≡ Some bytes → length bytes < 2 ^ 30
+    ensures completes { (bytes : List ℕ) → P.left peer.old ≡ Some bytes → length bytes < MOST_BYTES
         → (Rose (P.read_faults peer.old) (P.read_faults peer.new) → ⊥)
         → (Rose (P.write_faults peer.old) (P.write_faults peer.new) → ⊥) → result ≡ SessionEnd.Done }
 
     // Too many bytes always end so, where no put failed.
     ensures always_too_long { (taken rest : List ℕ) → P.left peer.old ≡ Some (taken ++ rest)
-        → P.left peer.new ≡ Some rest → length taken ≡ 2 ^ 30 → P.ended peer.new ≡ false
+        → P.left peer.new ≡ Some rest → length taken ≡ MOST_BYTES → P.ended peer.new ≡ false
         → NoBye (items_of false taken)
         → (Rose (P.write_faults peer.old) (P.write_faults peer.new) → ⊥) → result ≡ SessionEnd.TooLong }
 

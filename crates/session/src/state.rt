@@ -140,8 +140,8 @@ impl State {
     pub fn take_line<H: Shelf>(&mut self, alloc: Global, shelf: &mut H, line: &[u8]) -> Taken
         requires few { lines_in self.old.intake < 2 ^ 31 }
         ensures taken { (open_text : Option (List (List ℕ))) → HasOpen self.old.intake open_text
-            → LineTaken (H.alone shelf.old) (H.seen shelf.old) (H.published shelf.old) (H.seen shelf.new) (H.published shelf.new)
-            open_text self.new.intake line.now self.new.reply result }
+            → LineTaken (H.alone shelf.old) (H.seen shelf.old) (H.published shelf.old) (H.seen shelf.new)
+            (H.published shelf.new) open_text self.new.intake line.now self.new.reply result }
         ensures lines { lines_in self.new.intake ≤ lines_in self.old.intake + 1 }
         ensures alone { H.alone shelf.new ≡ H.alone shelf.old }
     {
@@ -215,8 +215,8 @@ impl State {
         requires open { IsFalse reader.ended }
         requires few { reader.progress.lines < 2 ^ 31 }
         ensures taken { (text : List (List ℕ)) → HasOpen (Intake.Text reader) (Some text)
-            → LineTaken (H.alone shelf.old) (H.seen shelf.old) (H.published shelf.old) (H.seen shelf.new) (H.published shelf.new)
-            (Some text) self.new.intake line.now self.new.reply result }
+            → LineTaken (H.alone shelf.old) (H.seen shelf.old) (H.published shelf.old) (H.seen shelf.new)
+            (H.published shelf.new) (Some text) self.new.intake line.now self.new.reply result }
         ensures lines { lines_in self.new.intake ≤ reader.progress.lines + 1 }
         ensures alone { H.alone shelf.new ≡ H.alone shelf.old }
     {
@@ -236,8 +236,8 @@ impl State {
     /// Takes a line of a text that is passed over.
     fn take_lost<H: Shelf>(&mut self, shelf: &mut H, line: &[u8]) -> Taken
         ensures taken { (text : List (List ℕ))
-            → LineTaken (H.alone shelf.old) (H.seen shelf.old) (H.published shelf.old) (H.seen shelf.new) (H.published shelf.new)
-            (Some text) self.new.intake line.now self.new.reply result }
+            → LineTaken (H.alone shelf.old) (H.seen shelf.old) (H.published shelf.old) (H.seen shelf.new)
+            (H.published shelf.new) (Some text) self.new.intake line.now self.new.reply result }
         ensures no_line { lines_in self.new.intake ≡ 0 }
         ensures alone { H.alone shelf.new ≡ H.alone shelf.old }
     {

@@ -9,7 +9,8 @@ pub returns-in-Text-clause-taken : goal.returns-in-Text-clause-taken
 returns-in-Text-clause-taken g c = λ open_text h.
     text_open
     (λ (m : Option (List (List ℕ))). LineTaken (g.H.Shelf.alone c.args.shelf.now) (g.H.Shelf.seen c.args.shelf.now)
-    (g.H.Shelf.published c.args.shelf.now) (g.H.Shelf.seen c.take_text.new.shelf) (g.H.Shelf.published c.take_text.new.shelf) m
+    (g.H.Shelf.published c.args.shelf.now) (g.H.Shelf.seen c.take_text.new.shelf)
+    (g.H.Shelf.published c.take_text.new.shelf) m
     c.take_text.new.self.intake c.args.line.now c.take_text.new.self.reply c.take_text.result)
     c.in-Text.reader c.take_text.ensures.taken open_text
     (subst (λ (i : Intake). HasOpen i open_text) (sym c.in-Text.ensures.value) h)
@@ -18,6 +19,7 @@ pub returns-in-Lost-clause-taken : goal.returns-in-Lost-clause-taken
 returns-in-Lost-clause-taken g c = λ open_text h.
     lost_open
     (λ (m : Option (List (List ℕ))). LineTaken (g.H.Shelf.alone c.args.shelf.now) (g.H.Shelf.seen c.args.shelf.now)
-    (g.H.Shelf.published c.args.shelf.now) (g.H.Shelf.seen c.take_lost.new.shelf) (g.H.Shelf.published c.take_lost.new.shelf) m
+    (g.H.Shelf.published c.args.shelf.now) (g.H.Shelf.seen c.take_lost.new.shelf)
+    (g.H.Shelf.published c.take_lost.new.shelf) m
     c.take_lost.new.self.intake c.args.line.now c.take_lost.new.self.reply c.take_lost.result)
     c.take_lost.ensures.taken open_text (subst (λ (i : Intake). HasOpen i open_text) (sym c.in-Lost.ensures.value) h)
