@@ -31,8 +31,8 @@ fn all_done(grow: &Growing) -> bool
 }
 
 /// The finished tree of a growing one whose history is complete: a cut tree, in whatever order the
-/// routers were committed (Gusfield, 1990). Where some terminal but the root wasn't committed, the
-/// growing tree is handed back. The finished one has the same retakes. It looks at each router once, and takes no memory.
+/// routers were committed (Gusfield, 1990), with the same retakes. Where some terminal but the root
+/// wasn't committed, the growing tree is handed back. It looks at each router once, and takes no memory.
 pub fn complete(grow: Growing) -> Result<Finished, Growing>
     ensures complete { OnOk result (IsComplete grow.net grow.history) }
     ensures tree { OnOk result (HoldsCutTree (tree_in grow)) }

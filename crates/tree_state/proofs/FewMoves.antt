@@ -117,7 +117,8 @@ shut-push net before entry shut is_shut r terminal not_root fresh =
     let now : with_number entry.router (entered before) r ≡ false = sym (entered-push before entry r) ∙ fresh in
     grind (arith, cases_Bool (r == entry.router), cases_Bool (entered before r), is_shut r terminal not_root)
 
--- where u routers aren't shut out, these move at most u - 1 times with the next entry, u - 2 times with the one after ..
+-- where u routers aren't shut out, these move at most u - 1 times with the next entry, u - 2 times with the one after
+-- it, and so on
 moves-open : (net : Net) (before rest : List Entry) (shut : RouterSet) (u : ℕ) → IsLegalAfter net before rest
     → IsShut net before shut → number_in shut net.routers + u ≡ net.routers
     → sum_over (outside shut) (moves_from (root_of net) (tables (root_of net) before) rest) net.routers ≤ triangle u

@@ -98,8 +98,8 @@ impl Finished {
         self.grown.entry(i)
     }
 
-    /// How many cuts of `s` weren't taken while the tree grew, since the router above it had moved. It moved
-    /// at least as often; so the retakes of all T terminals sum to at most (T - 1)(T - 2) / 2.
+    /// How many cuts of `s` weren't taken while the tree grew, since the router above it had moved. It
+    /// moved at least as often; so the retakes of all T terminals sum to at most (T - 1)(T - 2) / 2.
     pub fn retakes(&self, s: u32) -> u32
         requires { s < self.now.tree.net.routers }
         ensures value { result ≡ slice_index self.now.retakes s }

@@ -5,7 +5,7 @@ ghost use Rattle.std.specs.Arc.{arc_value};
 ghost use Rattle.cut_model.specs.declared.network.TheConstants.{MOST_ROUTERS, MOST_VALUE};
 ghost use Rattle.cut_model.specs.Net.{IsInLimits};
 ghost use Rattle.cut_model.specs.Terminals.{is_terminal, IsTerminal, terminal_count, root_of};
-ghost use Rattle.tree_state.specs.History.{tables, entered, entry_of, IsLegal};
+ghost use Rattle.tree_state.specs.History.{entered, entry_of, IsLegal};
 ghost use Rattle.tree_state.specs.Moves.{moves, sum_over, most_moves};
 ghost use Rattle.tree_state.specs.Growing.{bare_growing};
 ghost use Rattle.tree_state.specs.Views.{tree_in, up_of, width_of};
@@ -172,8 +172,8 @@ impl Growing {
         self.history.len() as u32
     }
 
-    /// The neighbour that was last read for `s`: the router that was above it then, or the root where none
-    /// was read yet.
+    /// The neighbour that was last read for `s`: the router that was above it then, or the root where
+    /// none was read yet.
     #[inline]
     pub fn last_read(&self, s: u32) -> u32
         requires { s < self.now.net.routers }
@@ -182,38 +182,42 @@ impl Growing {
         self.last_read[s as usize]
     }
 
-    /// How many cuts of `s` weren't taken since the router above it had moved, at most as often as it moved.
+    /// How many cuts of `s` weren't taken since the router above it had moved, at most as often as it
+    /// moved.
     #[inline]
     pub(crate) fn retakes(&self, s: u32) -> u32
         requires { s < self.now.net.routers }
         ensures value { result ≡ slice_index self.now.retakes s }
         ensures few { result ≤ moves (root_of self.now.net) self.now.history s }
-        ensures sum { sum_over (is_terminal self.now.net) (slice_index self.now.retakes) self.now.net.routers
-            ≤ most_moves (terminal_count self.now.net) }
+        ensures sum { sum_over (is_terminal self.now.net) (slice_index self.now.retakes)
+            self.now.net.routers ≤ most_moves (terminal_count self.now.net) }
     {
         self.retakes[s as usize]
     }
 
-    /// Notes that the router above `s` was read.
+    /// Notes that the router above `s` was read. It takes no memory.
     pub fn note_read(&mut self, s: u32)
         requires { s < self.old.net.routers }
         ensures net { self.new.net ≡ self.old.net }
         ensures history { self.new.history ≡ self.old.history }
-        ensures last_read { self.new.last_read ≡ slice_set self.old.last_read s (up_of (tree_in self.old) s) }
+        ensures last_read { self.new.last_read
+            ≡ slice_set self.old.last_read s (up_of (tree_in self.old) s) }
         ensures retakes { self.new.retakes ≡ self.old.retakes }
     {
         self.last_read[s as usize] = self.up[s as usize];
     }
 
-    /// Notes that a cut of `s`, an uncommitted terminal, wasn't taken since the router above it had moved
-    /// when it was last read: `s` has one more retake, and the router above it counts as read.
+    /// Notes that a cut of `s`, an uncommitted terminal, wasn't taken, since another router is above it
+    /// than the one that was last read: `s` has one more retake, and the router above it counts as read.
+    /// It takes no memory.
     pub fn note_retake(&mut self, s: u32)
         requires terminal { IsTerminal self.old.net s }
         requires fresh { entered self.old.history s ≡ false }
         requires moved { up_of (tree_in self.old) s ≢ slice_index self.old.last_read s }
         ensures net { self.new.net ≡ self.old.net }
         ensures history { self.new.history ≡ self.old.history }
-        ensures last_read { self.new.last_read ≡ slice_set self.old.last_read s (up_of (tree_in self.old) s) }
+        ensures last_read { self.new.last_read
+            ≡ slice_set self.old.last_read s (up_of (tree_in self.old) s) }
         ensures retakes { self.new.retakes
             ≡ slice_set self.old.retakes s (slice_index self.old.retakes s + 1) }
     {

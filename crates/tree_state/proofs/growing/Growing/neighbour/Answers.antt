@@ -19,7 +19,8 @@ pub returns-clause-other : goal.returns-clause-other
 returns-clause-other c =
     let low : c.args.s < (arc_value c.self.inside.net).routers =
     subst (λ (v : GrowingView). c.args.s < v.net.routers) (sym c.self.view_is) c.requires in
-    let read : c.index.result.now ≡ (tables (root_of (arc_value c.self.inside.net)) c.self.inside.history.items).up c.args.s =
+    let read : c.index.result.now
+    ≡ (tables (root_of (arc_value c.self.inside.net)) c.self.inside.history.items).up c.args.s =
     get_or_read c.self.inside.up.items _ _ (omega (arith, c.self.invariant.0.ups)) c.index.ensures 0
     ∙ c.self.invariant.0.up_is c.args.s low in
     subst (λ (v : GrowingView). entered v.history c.args.s ≡ false → c.args.s ≢ root_of v.net
