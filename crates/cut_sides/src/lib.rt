@@ -1,6 +1,6 @@
 //! What a set of routers costs and parts, and how two sets lie to each other.
 //!
-//! Each call is exact over the definitions of `cut_model`, and takes no memory.
+//! Each call is exact over the definitions of `cut_model`, and never fails for want of memory.
 #![tactic(auto)]
 
 mod sides;

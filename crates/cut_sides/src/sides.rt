@@ -5,7 +5,8 @@ ghost use Rattle.cut_sides.specs.Parts.{IsPartOf};
 
 use cut_model::{Link, Network, Side};
 
-/// Whether exactly one of two routers is in the side.
+/// Whether exactly one of two routers is in the side. With a side that holds router 0 alone,
+/// `separates(&side, 0, 1)` is true and `separates(&side, 1, 2)` is false.
 #[inline]
 pub fn separates(side: &Side, a: u32, b: u32) -> bool
     requires a { a < length side.now }
@@ -30,7 +31,8 @@ fn crossing(side: &Side, link: Link) -> u64
 }
 
 /// The value of a side: the capacities of all links with exactly one end in it, together. It looks at
-/// each link once.
+/// each link once. It is 2 for the side that holds router 0 alone, in the network of three routers with
+/// the links `{ a: 0, b: 1, cap: 2 }` and `{ a: 1, b: 2, cap: 3 }`.
 pub fn value_of(net: &Network, side: &Side) -> u64
     requires { length side.now ≡ net.now.routers }
     ensures { result ≡ cut_value net.now (set_of side.now) }
@@ -42,7 +44,8 @@ pub fn value_of(net: &Network, side: &Side) -> u64
     sum
 }
 
-/// Takes each router that is in out, and puts each other one in. It looks at each router once.
+/// Takes each router that is in out, and puts each other one in. It looks at each router once. A side
+/// of three routers that holds router 0 alone then holds routers 1 and 2.
 pub fn turn_over(side: &mut Side)
     ensures { side.new ≡ map not side.old }
 {
@@ -64,7 +67,7 @@ fn turn(side: &mut Side, router: u32)
 }
 
 /// Whether each router of the one side is in the other side too. It looks at each router at most
-/// once.
+/// once. A side that holds router 0 alone is a part of one that holds routers 0 and 1.
 pub fn is_part_of(small: &Side, large: &Side) -> bool
     requires { length small.now ≡ length large.now }
     ensures { IsTrue result ↔ IsPartOf (set_of small.now) (set_of large.now) }

@@ -3,6 +3,7 @@ use Rattle.std.proofs.Common.{◌≡◌, ℕ, ◌+◌, ◌*◌, ◌<◌, ◌≤�
 use Rattle.std.proofs.Common.{get_or, map, replicate, refl, sym, ap, ◌∙◌, arith}
 use Rattle.std.proofs.lemmas.List.{get_or-replicate, length-replicate}
 use Rattle.std.proofs.lemmas.List.Elements.{All-nil}
+use Rattle.cut_model.specs.declared.network.TheConstants.{MOST_ROUTERS, MOST_LINKS}
 use Rattle.cut_model.specs.declared.network.Link.{Link}
 use Rattle.cut_model.specs.Net.{Net, IsLink, IsInLimits}
 use Rattle.residual_graph.specs.Arcs.{arcs_from}
@@ -50,7 +51,7 @@ lone_group first places router low here next =
 
 -- so zeros, and lists that fill the room, are those of the network
 pub fresh_lone : (room_routers room_links : ℕ) (first : List ℕ) (places : List Place) (kept : List Link)
-    (left : List ℕ) (touched : Touches) → 0 < room_routers → room_routers ≤ 1024 → room_links ≤ 8192
+    (left : List ℕ) (touched : Touches) → 0 < room_routers → room_routers ≤ MOST_ROUTERS → room_links ≤ MOST_LINKS
     → first ≡ replicate (room_routers + 1) 0 → length places ≡ 2 * room_links → length kept ≡ room_links
     → length left ≡ 2 * room_links → touched.links ≡ []
     → IsFresh room_routers room_links 1 0 first places kept left touched lone

@@ -12,6 +12,7 @@ use Rattle.std.proofs.lemmas.List.{get_or-set_same, get_or-set_other, get_or-rep
 use Rattle.std.proofs.lemmas.List.{ext_get_or, get_or_append_left, get_or_push}
 use Rattle.std.proofs.lemmas.List.Elements.{All-append, All-cons, All-nil}
 use Rattle.std.proofs.lemmas.Nat.{xor_block}
+use Rattle.cut_model.specs.declared.network.TheConstants.{MOST_CAPACITY}
 use Rattle.cut_model.specs.declared.network.Link.{Link}
 use Rattle.residual_graph.specs.Arcs.{no_link, turned, twin}
 use Rattle.residual_graph.specs.Fills.{HasCap, HasCaps, HasCapsBut, after}
@@ -224,7 +225,7 @@ pub record IsPush (links : List Link) (left : List ℕ) (j arc other amount : �
 
 -- a push along the arc there
 push_there : (links : List Link) (left : List ℕ) (j amount : ℕ) → ArePairs links left
-    → (get_or links j no_link).cap ≤ 1000000000000 → j < length links → 2 * length links ≤ length left
+    → (get_or links j no_link).cap ≤ MOST_CAPACITY → j < length links → 2 * length links ≤ length left
     → amount ≤ get_or left (2 * j) 0 → IsPush links left j (2 * j) (2 * j + 1) amount
 push_there links left j amount pairs cap low fits enough =
     let moved = after_there left j amount (omega arith) enough in record {
@@ -240,7 +241,7 @@ push_there links left j amount pairs cap low fits enough =
 
 -- a push along the arc back
 push_back : (links : List Link) (left : List ℕ) (j amount : ℕ) → ArePairs links left
-    → (get_or links j no_link).cap ≤ 1000000000000 → j < length links → 2 * length links ≤ length left
+    → (get_or links j no_link).cap ≤ MOST_CAPACITY → j < length links → 2 * length links ≤ length left
     → amount ≤ get_or left (2 * j + 1) 0 → IsPush links left j (2 * j + 1) (2 * j) amount
 push_back links left j amount pairs cap low fits enough =
     let moved = after_back left j amount (omega arith) enough in record {
@@ -256,7 +257,7 @@ push_back links left j amount pairs cap low fits enough =
 
 -- a push along any arc
 pub push_is : (links : List Link) (left : List ℕ) (arc amount : ℕ) → ArePairs links left
-    → ((i : ℕ) → i < length links → (get_or links i no_link).cap ≤ 1000000000000)
+    → ((i : ℕ) → i < length links → (get_or links i no_link).cap ≤ MOST_CAPACITY)
     → arc < 2 * length links → 2 * length links ≤ length left
     → amount ≤ get_or left arc 0 → IsPush links left (arc / 2) arc (bit_xor arc 1) amount
 push_is links left arc amount pairs cap low fits enough =

@@ -4,6 +4,7 @@ use Rattle.std.proofs.Common.{get_or, take, sym, ap, ◌∙◌, subst, inl, inr,
 use Rattle.std.specs.Prelude.{pos, ◌-ℤ◌}
 use Rattle.std.proofs.lemmas.Bool.{cases_lt}
 use Rattle.std.proofs.lemmas.List.{get_or-take, length-take-le}
+use Rattle.cut_model.specs.declared.network.TheConstants.{MOST_ROUTERS, MOST_LINKS, MOST_CAPACITY}
 use Rattle.cut_model.specs.declared.network.Link.{Link}
 use Rattle.cut_model.specs.Net.{Net, IsInLimits}
 use Rattle.residual_graph.specs.Arcs.{no_link, arc_count}
@@ -28,8 +29,8 @@ pub record IsOf (routers links : ℕ) (first : List ℕ) (places : List Place) (
   pub places_fit : arc_count view.net ≤ length places
   pub kept_fits : length view.net.links ≤ length kept
   pub left_fits : arc_count view.net ≤ length left
-  pub few_routers : view.net.routers ≤ 1024
-  pub few_links : length view.net.links ≤ 8192
+  pub few_routers : view.net.routers ≤ MOST_ROUTERS
+  pub few_links : length view.net.links ≤ MOST_LINKS
 
 -- the kept links are as many as there are links
 pub length-kept : {room_routers room_links routers links : ℕ} {first : List ℕ} {places : List Place} {kept : List Link}
@@ -122,7 +123,7 @@ kept_is {links = links} {kept = kept} of i low =
 
 -- its capacity is within the limit
 pub cap_small : (net : Net) → IsInLimits net → (i : ℕ) → i < length net.links
-    → (get_or net.links i no_link).cap ≤ 1000000000000
+    → (get_or net.links i no_link).cap ≤ MOST_CAPACITY
 cap_small net limits i low = (limits.within i no_link low).cap
 
 -- what is stored of an arc is what is left on it
@@ -140,8 +141,8 @@ left_at {room_routers} {room_links} {routers} {links} {first} {places} {kept} {l
 -- the capacity less what is left on the first arc is the flow, and what is left is at most twice the capacity
 pub record IsFlowAt (kept : List Link) (left : List ℕ) (view : ResidualView) (i : ℕ) : Type 0 where
   pub is : flow_at kept left i ≡ get_or view.flow i (pos 0)
-  pub cap : (get_or kept i no_link).cap ≤ 1000000000000
-  pub most : get_or left (2 * i) 0 ≤ 2000000000000
+  pub cap : (get_or kept i no_link).cap ≤ MOST_CAPACITY
+  pub most : get_or left (2 * i) 0 ≤ 2 * MOST_CAPACITY
 
 -- they are stored so
 pub flow_at_link : {room_routers room_links routers links : ℕ} {first : List ℕ} {places : List Place}
@@ -154,8 +155,8 @@ flow_at_link {room_routers} {room_links} {routers} {links} {first} {places} {kep
     let own : i < links = omega (arith, of.count_is) in
     let inside : i < length (take links kept) = omega (arith, length-kept stored) in
     let same : get_or (take links kept) i no_link ≡ get_or kept i no_link = get_or-take links kept i no_link own in
-    let cap : (get_or kept i no_link).cap ≤ 1000000000000 =
-    subst (λ (l : Link). l.cap ≤ 1000000000000) same (stored.limits.within i no_link inside).cap in record {
+    let cap : (get_or kept i no_link).cap ≤ MOST_CAPACITY =
+    subst (λ (l : Link). l.cap ≤ MOST_CAPACITY) same (stored.limits.within i no_link inside).cap in record {
       is = ap (λ (l : Link). pos l.cap -ℤ pos (get_or left (2 * i) 0)) (sym same)
           ∙ sym (get_or-flows_at (take links kept) left i inside)
           ∙ ap (λ flow. get_or flow i (pos 0))

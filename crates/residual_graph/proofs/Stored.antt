@@ -7,6 +7,7 @@ use Rattle.std.specs.Int.RustNames.{bit_xor}
 use Rattle.std.proofs.lemmas.Int.{ints}
 use Rattle.std.proofs.lemmas.List.{take-append-le, take_all}
 use Rattle.std.proofs.lemmas.List.Elements.{All-nil}
+use Rattle.cut_model.specs.declared.network.TheConstants.{MOST_ROUTERS, MOST_LINKS}
 use Rattle.cut_model.specs.declared.network.Link.{Link}
 use Rattle.cut_model.specs.Net.{Net, IsInLimits}
 use Rattle.residual_graph.specs.Arcs.{no_link, arc_count}
@@ -131,8 +132,8 @@ held_is routers links held net is same = (
 -- What the lists of a network without a flow are.
 pub record IsFresh (room_routers room_links routers links : ℕ) (first : List ℕ) (places : List Place)
     (kept : List Link) (left : List ℕ) (touched : Touches) (net : Net) : Type 0 where
-  pub few_routers : room_routers ≤ 1024
-  pub few_links : room_links ≤ 8192
+  pub few_routers : room_routers ≤ MOST_ROUTERS
+  pub few_links : room_links ≤ MOST_LINKS
   pub routers_are : routers ≡ net.routers
   pub routers_fit : routers ≤ room_routers
   pub links_fit : links ≤ room_links

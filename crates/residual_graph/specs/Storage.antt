@@ -2,6 +2,7 @@
 use Rattle.std.specs.Prelude.{◌≡◌, ℕ, ◌+◌, ◌*◌, ◌<◌, ◌≤◌, false, ℤ, pos, ◌-ℤ◌}
 use Rattle.std.specs.Prelude.{All, List, length, map, slice_index, slice_index_or, take}
 use Rattle.std.specs.List.{range_with_len}
+use Rattle.cut_model.specs.declared.network.TheConstants.{MOST_ROUTERS, MOST_LINKS}
 use Rattle.cut_model.specs.declared.network.Link.{Link}
 use Rattle.cut_model.specs.Net.{IsInLimits}
 use Rattle.residual_graph.specs.Arcs.{no_link}
@@ -39,8 +40,8 @@ ArePairs links left =
 -- flow is listed among the touched ones, unless all are taken as touched.
 pub record IsStored (room_routers room_links routers links : ℕ) (first : List ℕ) (places : List Place)
     (kept : List Link) (left : List ℕ) (touched : Touches) : Type 0 where
-  pub few_routers : room_routers ≤ 1024
-  pub few_links : room_links ≤ 8192
+  pub few_routers : room_routers ≤ MOST_ROUTERS
+  pub few_links : room_links ≤ MOST_LINKS
   pub routers_fit : routers ≤ room_routers
   pub links_fit : links ≤ room_links
   pub first_room : length first ≡ room_routers + 1

@@ -1,6 +1,7 @@
 -- What contracts see of a residual graph.
 use Rattle.std.specs.Prelude.{ℕ, ◌≤◌, ◌/◌, ◌%◌, ◌==◌, ℤ, pos, neg_ℤ}
 use Rattle.std.specs.Prelude.{◌+ℤ◌, ◌-ℤ◌, List, length, slice_index_or, slice_set, if◌then◌else◌}
+use Rattle.cut_model.specs.declared.network.TheConstants.{MOST_ROUTERS, MOST_LINKS}
 use Rattle.cut_model.specs.Net.{Net, IsInLimits}
 use Rattle.cut_model.specs.Flow.{IsWithinCaps}
 use Rattle.residual_graph.specs.Arcs.{link_of}
@@ -16,8 +17,8 @@ pub record ResidualView : Type 0 where
 pub record IsSound (view : ResidualView) : Type 0 where
   pub routers : view.net.routers ≤ view.room_routers
   pub links : length view.net.links ≤ view.room_links
-  pub room_routers : view.room_routers ≤ 1024
-  pub room_links : view.room_links ≤ 8192
+  pub room_routers : view.room_routers ≤ MOST_ROUTERS
+  pub room_links : view.room_links ≤ MOST_LINKS
   pub limits : IsInLimits view.net
   pub within : IsWithinCaps view.net.links view.flow
 

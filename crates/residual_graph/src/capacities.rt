@@ -1,6 +1,7 @@
 //! What is left on the two arcs of each link.
 ghost use Rattle.std.specs.Prelude.{◌≡◌, ◌≢◌, ℕ, ◌+◌, ◌-◌, ◌*◌, ◌^◌, ◌<◌, ◌≤◌, ◌++◌, ◌-ℤ◌};
 ghost use Rattle.std.specs.Prelude.{All, drop, false, length, pos, slice_index};
+ghost use Rattle.cut_model.specs.declared.network.TheConstants.{MOST_CAPACITY};
 ghost use Rattle.residual_graph.specs.Fills.{HasCaps, HasCapsBut, after};
 
 use crate::touched::Touched;
@@ -72,8 +73,8 @@ pub fn move_amount(left: &mut [u64], from: u32, to: u32, amount: u64)
 /// The flow on a link: its capacity less what is left on its first arc.
 #[inline(always)]
 pub fn flow_of(cap: u64, left: u64) -> i64
-    requires cap { cap ≤ 1000000000000 }
-    requires left { left ≤ 2000000000000 }
+    requires cap { cap ≤ MOST_CAPACITY }
+    requires left { left ≤ 2 * MOST_CAPACITY }
     ensures { result ≡ pos cap -ℤ pos left }
 {
     cap as i64 - left as i64

@@ -2,6 +2,7 @@
 ghost use Rattle.std.specs.Prelude.{◌≡◌, ℕ, ◌+◌, ◌*◌, ◌<◌, ◌≤◌, ◌≤ℤ◌, ◌↔◌, All, IfOk, IsTrue};
 ghost use Rattle.std.specs.Prelude.{[], drop, length, pos, replicate, slice_index_or, slice_index, sum_by, true};
 ghost use Rattle.std.specs.List.Sorted.{IsStrictlyIncreasing};
+ghost use Rattle.cut_model.specs.declared.network.TheConstants.{MOST_ROUTERS, MOST_LINKS};
 ghost use Rattle.residual_graph.specs.Arcs.{arc_count, arcs_from, cap_of, head_of, tail_of, turned};
 ghost use Rattle.residual_graph.specs.Places.{IsPlaceOf, begin_of, no_place, place_at, place_of, places_from};
 ghost use Rattle.residual_graph.specs.View.{IsSound, left_on, pushed};
@@ -18,6 +19,10 @@ use std::sync::ledger::Ledger;
 
 /// A network and a flow on it, by what is left on each arc, in room for a larger network. The arcs
 /// that leave a router stand side by side. Contracts see a `ResidualView`.
+///
+/// The examples at its calls are of the network `net` of three routers and four links: two from router
+/// 0 to router 1, of capacities 2 and 3, one of capacity 9 from router 1 to itself, and one of capacity
+/// 4 from router 2 to router 1.
 #[derive(Drop)]
 pub struct Residual {
     room_routers: u32,
@@ -51,12 +56,16 @@ impl Model for Residual {
 }
 
 impl Residual {
-    /// Room for networks of so many routers and links, at most 1,024 and 8,192. It takes all its
-    /// memory here, and holds a network of one router and no link.
+    /// Room for networks of so many routers and links, at most [`MOST_ROUTERS`](cut_model::MOST_ROUTERS)
+    /// and [`MOST_LINKS`](cut_model::MOST_LINKS). No later call fails for want of memory. It holds a
+    /// network of one router and no link. `Residual::with_room(alloc, 3, 4)?` has room for `net`.
+    ///
+    /// # Errors
+    /// [`NoMemory`], where there is too little memory for the room.
     pub fn with_room(alloc: Global, routers: u32, links: u32) -> Result<Residual, NoMemory>
         requires some { 0 < routers }
-        requires routers { routers ≤ 1024 }
-        requires links { links ≤ 8192 }
+        requires routers { routers ≤ MOST_ROUTERS }
+        requires links { links ≤ MOST_LINKS }
         ensures room_routers { IfOk result (λ r. r.room_routers ≡ routers) }
         ensures room_links { IfOk result (λ r. r.room_links ≡ links) }
         ensures net { IfOk result (λ r. r.net ≡ record { routers = 1; links = [] }) }
@@ -79,7 +88,8 @@ impl Residual {
 
     /// Holds the network from now on, with no flow on any link. Where it is the network that is held
     /// already, each link is compared once, and the flow is undone. Else the arcs are sorted by their
-    /// tails anew, in time in proportion to the numbers of routers and links.
+    /// tails anew, in time in proportion to the numbers of routers and links. After
+    /// `graph.load(&net)`, `graph.flow_on(1)` is 0.
     pub fn load(&mut self, net: &Network)
         requires routers { net.now.routers ≤ self.old.room_routers }
         requires links { length net.now.links ≤ self.old.room_links }
@@ -124,7 +134,8 @@ impl Residual {
 
     /// Takes all flow back: each link has none, as after `load`, and the network is the same. It looks
     /// at the links alone that got flow since the last `load` or `undo`, or at all links where links
-    /// without flow got some more often than there is room for links.
+    /// without flow got some more often than there is room for links. After a push of 2 along arc 2 and
+    /// `graph.undo()`, `graph.flow_on(1)` is 0.
     pub fn undo(&mut self)
         ensures value { self.new
             ≡ record self.old { flow = replicate (length self.old.net.links) (pos 0) } }
@@ -135,7 +146,7 @@ impl Residual {
         self.touched.clear();
     }
 
-    /// What is left on an arc. One step.
+    /// What is left on an arc. One step. After `graph.load(&net)`, `graph.left(2, &mut steps)` is 3.
     #[inline]
     pub fn left<L: Ledger>(&self, arc: u32, steps: &mut Steps<L>) -> u64
         requires { arc < arc_count self.now.net }
@@ -146,7 +157,8 @@ impl Residual {
         self.left[arc as usize]
     }
 
-    /// What is left on an arc, or on its twin, the arc of the same link the other way. One step.
+    /// What is left on an arc, or on its twin, the arc of the same link the other way. One step. After a
+    /// push of 2 along arc 2 of `net`, `graph.left_along(2, true, &mut steps)` is 5.
     #[inline]
     pub fn left_along<L: Ledger>(&self, arc: u32, back: bool, steps: &mut Steps<L>) -> u64
         requires { arc < arc_count self.now.net }
@@ -157,7 +169,8 @@ impl Residual {
         self.left[(arc ^ u32::from(back)) as usize]
     }
 
-    /// Sends an amount along an arc, at most what is left on it. One step.
+    /// Sends an amount along an arc, at most what is left on it. One step. After `graph.load(&net)` and
+    /// `graph.push(2, 2, &mut steps)`, `graph.left(2, &mut steps)` is 1.
     #[inline]
     pub fn push<L: Ledger>(&mut self, arc: u32, amount: u64, steps: &mut Steps<L>)
         requires arc { arc < arc_count self.old.net }
@@ -173,7 +186,8 @@ impl Residual {
         move_amount(&mut self.left, arc, twin, amount);
     }
 
-    /// The number of arcs that leave a router. `arc` gives each of them at just one place below it.
+    /// The number of arcs that leave a router. `arc` gives each of them at just one place below it. In
+    /// `net`, `graph.arcs_of(1)` is 5.
     #[inline]
     pub fn arcs_of(&self, router: u32) -> u32
         requires { router < self.now.net.routers }
@@ -184,7 +198,8 @@ impl Residual {
         self.first[router as usize + 1] - self.first[router as usize]
     }
 
-    /// The arc at a place among those that leave a router, in ascending order.
+    /// The arc at a place among those that leave a router, in ascending order. In `net`,
+    /// `graph.arc(1, 4)` is 7.
     #[inline]
     pub fn arc(&self, router: u32, place: u32) -> u32
         requires router { router < self.now.net.routers }
@@ -194,7 +209,7 @@ impl Residual {
         self.places_of(router)[place as usize].arc
     }
 
-    /// The router to which an arc goes.
+    /// The router to which an arc goes. In `net`, `graph.head(7)` is 2.
     #[inline]
     pub fn head(&self, arc: u32) -> u32
         requires { arc < arc_count self.now.net }
@@ -205,7 +220,8 @@ impl Residual {
         if arc % 2 == 0 { link.b } else { link.a }
     }
 
-    /// The flow on a link, positive from its end a to its end b.
+    /// The flow on a link, positive from its end a to its end b. After a push of 2 along arc 2 of `net`,
+    /// `graph.flow_on(1)` is 2; along arc 3 it would be -2.
     #[inline]
     pub fn flow_on(&self, link: u32) -> i64
         requires { link < length self.now.net.links }
@@ -215,7 +231,8 @@ impl Residual {
         flow_of(self.kept[link].cap, self.left[2 * link])
     }
 
-    /// The arcs that leave a router, in ascending order, each with its head.
+    /// The arcs that leave a router, in ascending order, each with its head. In `net`,
+    /// `graph.places_of(1)` has five places, and the second is `Place { head: 0, arc: 3 }`.
     #[inline]
     pub fn places_of(&self, router: u32) -> &[Place]
         requires { router < self.now.net.routers }
@@ -229,7 +246,8 @@ impl Residual {
     }
 
     /// The number of a router's first place among the places of all routers, one router's behind
-    /// another's. For the number of routers it is the number of arcs.
+    /// another's. For the number of routers it is the number of arcs. In `net`, `graph.begin(1)` is 2,
+    /// and `graph.begin(3)` is 8.
     #[inline]
     pub fn begin(&self, router: u32) -> u32
         requires { router ≤ self.now.net.routers }
@@ -241,7 +259,7 @@ impl Residual {
     }
 
     /// The place of that number. Those of a router are numbered from its `begin` on, in the order of
-    /// `places_of`.
+    /// `places_of`. In `net`, `graph.place(6)` is `Place { head: 2, arc: 7 }`.
     #[inline]
     pub fn place(&self, at: u32) -> Place
         requires { at < arc_count self.now.net }
@@ -256,7 +274,8 @@ impl Residual {
         self.places[at as usize]
     }
 
-    /// Writes each router's first place to the front of a list, and leaves the rest of it.
+    /// Writes each router's first place to the front of a list, and leaves the rest of it. In `net`, a
+    /// list `[9, 9, 9, 9]` becomes `[0, 2, 7, 9]`.
     pub fn copy_begins(&self, cursor: &mut [u32])
         requires { self.now.net.routers ≤ length cursor.old }
         ensures begins { (router : ℕ) → router < self.now.net.routers →
@@ -268,7 +287,7 @@ impl Residual {
     }
 
     /// The capacities of the arcs that leave a router, together: a link from the router to itself
-    /// counts twice.
+    /// counts twice. In `net`, `graph.around(1)` is 27.
     pub fn around(&self, router: u32) -> u64
         requires { router < self.now.net.routers }
         ensures { result ≡ sum_by (cap_of self.now.net) (arcs_from self.now.net router) }

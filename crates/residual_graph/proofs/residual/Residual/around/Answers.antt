@@ -1,6 +1,7 @@
 use Rattle.std.proofs.Common.{◌≡◌, ◌<◌, ◌≤◌, ◌/◌, List, get_or, length, refl, ap, ◌∙◌, arith}
 use Rattle.std.proofs.lemmas.List.{get_or_read_under}
 use Rattle.std.proofs.lemmas.List.Sums.{sum_by_more}
+use Rattle.cut_model.specs.declared.network.TheConstants.{MOST_CAPACITY}
 use Rattle.cut_model.specs.declared.network.Link.{Link}
 use Rattle.residual_graph.specs.Arcs.{arcs_from, cap_of, no_link}
 use Rattle.residual_graph.specs.Places.{no_place}
@@ -19,7 +20,7 @@ index-requires c =
 added : (c : goal.After-index)
     → (c.index.result.now.cap ≡ cap_of c.args.self.now.net
     (get_or (arcs_from c.args.self.now.net c.args.router) c.loop-place.place-index 0))
-    × (c.index.result.now.cap ≤ 1000000000000)
+    × (c.index.result.now.cap ≤ MOST_CAPACITY)
     × (c.loop-place.place-index < length (arcs_from c.args.self.now.net c.args.router))
 added c =
     let of = is_of c.self.invariant c.args.self.now c.self.view_is in
