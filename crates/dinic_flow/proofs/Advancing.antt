@@ -34,22 +34,22 @@ cursor-moved cursor router v r within later = elim (cases_eq r router) [
 ]
 
 -- A router that was spent stays so, if no cursor goes past a router's arcs.
-blocked-moved : (view : ResidualView) (least t : ℕ) (label old new : List ℕ) (arc : ℕ) →
+blocked-moved : (view : ResidualView) (threshold t : ℕ) (label old new : List ℕ) (arc : ℕ) →
     (IsSpent view.net old (head_of view.net arc) → IsSpent view.net new (head_of view.net arc)) →
-    IsBlocked view least t label old arc → IsBlocked view least t label new arc
-blocked-moved view least t label old new arc stays was leads = elim (was leads) [
+    IsBlocked view threshold t label old arc → IsBlocked view threshold t label new arc
+blocked-moved view threshold t label old new arc stays was leads = elim (was leads) [
   | inl closed ↦ inl closed
   | inr spent ↦ inr (spent.0, stays spent.1)
 ]
 
 -- A router's cursor may move over arcs that are blocked.
-pub phase-moved : (view : ResidualView) (least t : ℕ) (label cursor : List ℕ) (router v : ℕ) →
-    IsPhase view least t label cursor → router < view.net.routers → router ≢ t →
+pub phase-moved : (view : ResidualView) (threshold t : ℕ) (label cursor : List ℕ) (router v : ℕ) →
+    IsPhase view threshold t label cursor → router < view.net.routers → router ≢ t →
     get_or cursor router 0 ≤ v → v ≤ begin_of view.net (router + 1) →
     ((at : ℕ) → get_or cursor router 0 ≤ at → at < v →
-    IsBlocked view least t label cursor (place_at view.net at).arc) →
-    IsPhase view least t label (set cursor router v)
-phase-moved view least t label cursor router v old small apart later most passed =
+    IsBlocked view threshold t label cursor (place_at view.net at).arc) →
+    IsPhase view threshold t label (set cursor router v)
+phase-moved view threshold t label cursor router v old small apart later most passed =
     let within : router < length cursor = omega (arith, old.come.size) in
     let same = get_or-set_same cursor router v 0 within in
     let other : (r : ℕ) → r ≢ router → get_or (set cursor router v) r 0 ≡ get_or cursor r 0 =
@@ -74,7 +74,7 @@ phase-moved view least t label cursor router v old small apart later most passed
         ];
         blocked = λ r at below low high.
             let arc : ℕ = (place_at view.net at).arc in
-            blocked-moved view least t label cursor (set cursor router v) arc (stays (head_of view.net arc))
+            blocked-moved view threshold t label cursor (set cursor router v) arc (stays (head_of view.net arc))
             (elim (cases_lt at (get_or cursor r 0)) [
               | inl before ↦ old.come.blocked r at below low before
               | inr behind ↦ elim (cases_eq r router) [
@@ -130,10 +130,10 @@ twin-within : (net : Net) (arc : ℕ) → arc < arc_count net → twin arc < arc
 twin-within net arc within = omega (arith, (twin-ends net arc).1)
 
 -- A spent router that an arc goes to isn't t, whose cursor is at its first place.
-pub unspent : (view : ResidualView) (least t : ℕ) (label cursor : List ℕ) (arc : ℕ) →
-    IsPhase view least t label cursor → arc < arc_count view.net →
+pub unspent : (view : ResidualView) (threshold t : ℕ) (label cursor : List ℕ) (arc : ℕ) →
+    IsPhase view threshold t label cursor → arc < arc_count view.net →
     IsSpent view.net cursor (head_of view.net arc) → head_of view.net arc ≢ t
-unspent view least t label cursor arc phase within spent is =
+unspent view threshold t label cursor arc phase within spent is =
     let net : Net = view.net in
     let other : ℕ = twin arc in
     let back = twin-ends net arc in
@@ -146,9 +146,9 @@ unspent view least t label cursor arc phase within spent is =
     omega (arith, phase.come.fresh)
 
 -- Each router but t is below t.
-pub below-top : (view : ResidualView) (least t : ℕ) (label : List ℕ) (r : ℕ) → IsLevelled view least t label → r ≢ t →
+pub below-top : (view : ResidualView) (threshold t : ℕ) (label : List ℕ) (r : ℕ) → IsLevelled view threshold t label → r ≢ t →
     get_or label r 0 < get_or label t 0
-below-top view least t label r levelled apart = elim (cases_lt (get_or label r 0) (get_or label t 0)) [
+below-top view threshold t label r levelled apart = elim (cases_lt (get_or label r 0) (get_or label t 0)) [
   | inl less ↦ less
   | inr high ↦ absurd (apart (levelled.only r (omega (arith, levelled.most r))))
 ]

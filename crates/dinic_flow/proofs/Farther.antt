@@ -17,104 +17,104 @@ use Rattle.dinic_flow.specs.Phases.{Rises, IsSpent, IsBlocked, IsPhase}
 use Rattle.dinic_flow.proofs.Relays.{height-label}
 
 -- An open arc rises by one level at most.
-arc-rises : (view : ResidualView) (least t u v : ℕ) (label : List ℕ) (levelled : IsLevelled view least t label) →
-    OpenArc view least u v → height levelled.mid label v ≤ height levelled.mid label u + 1
-arc-rises view least t u v label levelled arc =
+arc-rises : (view : ResidualView) (threshold t u v : ℕ) (label : List ℕ) (levelled : IsLevelled view threshold t label) →
+    OpenArc view threshold u v → height levelled.mid label v ≤ height levelled.mid label u + 1
+arc-rises view threshold t u v label levelled arc =
     rw (arc.tail, arc.head) at (levelled.rises arc.arc arc.within arc.is_open)
 
 -- One that leaves a router without a label doesn't rise.
-arc-stays : (view : ResidualView) (least t u v : ℕ) (label : List ℕ) (levelled : IsLevelled view least t label) →
-    OpenArc view least u v → get_or label u 0 ≡ 0 → height levelled.mid label v ≤ levelled.mid
-arc-stays view least t u v label levelled arc none =
+arc-stays : (view : ResidualView) (threshold t u v : ℕ) (label : List ℕ) (levelled : IsLevelled view threshold t label) →
+    OpenArc view threshold u v → get_or label u 0 ≡ 0 → height levelled.mid label v ≤ levelled.mid
+arc-stays view threshold t u v label levelled arc none =
     rw arc.head at (levelled.stays arc.arc arc.within arc.is_open (rw arc.tail none))
 
 -- A walk to t has as many arcs as it is high, or more.
-climbs : (view : ResidualView) (least t : ℕ) (label : List ℕ) (levelled : IsLevelled view least t label) →
-    0 < get_or label t 0 → (arcs u : ℕ) → Walk view least arcs u t →
+climbs : (view : ResidualView) (threshold t : ℕ) (label : List ℕ) (levelled : IsLevelled view threshold t label) →
+    0 < get_or label t 0 → (arcs u : ℕ) → Walk view threshold arcs u t →
     get_or label t 0 ≤ height levelled.mid label u + arcs
-climbs view least t label levelled some zero u is =
+climbs view threshold t label levelled some zero u is =
     omega (arith, height-label levelled.mid label t some, ap (λ (r : ℕ). height levelled.mid label r) is)
-climbs view least t label levelled some (suc arcs) u (w, arc, rest) =
-    omega (arith, climbs view least t label levelled some arcs w rest, arc-rises view least t u w label levelled arc)
+climbs view threshold t label levelled some (suc arcs) u (w, arc, rest) =
+    omega (arith, climbs view threshold t label levelled some arcs w rest, arc-rises view threshold t u w label levelled arc)
 
 -- A router without a label is at the middle height.
 height-none : (mid : ℕ) (label : List ℕ) (r : ℕ) → get_or label r 0 ≡ 0 → height mid label r ≡ mid
 height-none mid label r none = rw (eq-eqb (get_or label r 0) 0 none) refl
 
 -- On a walk to t that rises by one level at each arc, each router has a label.
-labelled : (view : ResidualView) (least t : ℕ) (label : List ℕ) (levelled : IsLevelled view least t label) →
-    0 < get_or label t 0 → (arcs u : ℕ) → Walk view least arcs u t →
+labelled : (view : ResidualView) (threshold t : ℕ) (label : List ℕ) (levelled : IsLevelled view threshold t label) →
+    0 < get_or label t 0 → (arcs u : ℕ) → Walk view threshold arcs u t →
     get_or label t 0 ≡ height levelled.mid label u + arcs → 0 < get_or label u 0
-labelled view least t label levelled some zero u is steep =
+labelled view threshold t label levelled some zero u is steep =
     omega (arith, some, ap (λ (r : ℕ). get_or label r 0) is)
-labelled view least t label levelled some (suc arcs) u (w, arc, rest) steep = elim (cases_eq (get_or label u 0) 0) [
+labelled view threshold t label levelled some (suc arcs) u (w, arc, rest) steep = elim (cases_eq (get_or label u 0) 0) [
   | inr ne ↦ omega arith
   | inl none ↦ absurd (omega (
     arith,
-    climbs view least t label levelled some arcs w rest,
-    arc-stays view least t u w label levelled arc none,
+    climbs view threshold t label levelled some arcs w rest,
+    arc-stays view threshold t u w label levelled arc none,
     height-none levelled.mid label u none,
     steep,
   ))
 ]
 
 -- No arc is both closed and open.
-closed-open : (x : ℤ) (least : ℕ) → x <ℤ pos least → pos least ≤ℤ x → ⊥
-closed-open x least below above = omega (arith, ints, below, above)
+closed-open : (x : ℤ) (threshold : ℕ) → x <ℤ pos threshold → pos threshold ≤ℤ x → ⊥
+closed-open x threshold below above = omega (arith, ints, below, above)
 
 -- From a spent router no walk to t rises by one level at each arc.
-stuck : (view : ResidualView) (least t : ℕ) (label cursor : List ℕ) (phase : IsPhase view least t label cursor) →
-    0 < get_or label t 0 → (arcs u : ℕ) → Walk view least arcs u t →
+stuck : (view : ResidualView) (threshold t : ℕ) (label cursor : List ℕ) (phase : IsPhase view threshold t label cursor) →
+    0 < get_or label t 0 → (arcs u : ℕ) → Walk view threshold arcs u t →
     get_or label t 0 ≡ height phase.levelled.mid label u + arcs → u ≢ t → u < view.net.routers →
     IsSpent view.net cursor u → ⊥
-stuck view least t label cursor phase some zero u is steep apart small spent = apart is
-stuck view least t label cursor phase some (suc arcs) u (w, arc, rest) steep apart small spent =
+stuck view threshold t label cursor phase some zero u is steep apart small spent = apart is
+stuck view threshold t label cursor phase some (suc arcs) u (w, arc, rest) steep apart small spent =
     let mid : ℕ = phase.levelled.mid in
-    let above = climbs view least t label phase.levelled some arcs w rest in
-    let below = arc-rises view least t u w label phase.levelled arc in
+    let above = climbs view threshold t label phase.levelled some arcs w rest in
+    let below = arc-rises view threshold t u w label phase.levelled arc in
     let steep_on : get_or label t 0 ≡ height mid label w + arcs = omega (arith, above, below, steep) in
     let low = height-label mid label u
-    (labelled view least t label phase.levelled some (suc arcs) u (w, arc, rest) steep) in
-    let high = height-label mid label w (labelled view least t label phase.levelled some arcs w rest steep_on) in
+    (labelled view threshold t label phase.levelled some (suc arcs) u (w, arc, rest) steep) in
+    let high = height-label mid label w (labelled view threshold t label phase.levelled some arcs w rest steep_on) in
     let on : get_or label w 0 ≡ get_or label u 0 + 1 = omega (arith, low, high, steep, steep_on) in
     let leads : Rises view.net label arc.arc = rw (arc.tail, arc.head) on in
     let (at, from, to, is) = arc-between view.net phase.sound.limits arc.arc arc.within in
     let start : begin_of view.net u ≤ at = rw arc.tail at from in
     let passed : at < get_or cursor u 0 = omega (arith, rw arc.tail at to, spent) in
-    let was : IsBlocked view least t label cursor (place_at view.net at).arc =
+    let was : IsBlocked view threshold t label cursor (place_at view.net at).arc =
     phase.come.blocked u at small start passed in
     let is_arc : (place_at view.net at).arc ≡ arc.arc = ap (λ (p : Place). p.arc) is in
-    elim (subst (λ (x : ℕ). IsBlocked view least t label cursor x) is_arc was leads) [
-      | inl closed ↦ closed-open _ least closed arc.is_open
+    elim (subst (λ (x : ℕ). IsBlocked view threshold t label cursor x) is_arc was leads) [
+      | inl closed ↦ closed-open _ threshold closed arc.is_open
       | inr other ↦
           let next : (w ≢ t) × IsSpent view.net cursor w = rw arc.head at other in
           let inside : w < view.net.routers =
           rw arc.head at (head_below view.net phase.sound.limits arc.arc arc.within) in
-          stuck view least t label cursor phase some arcs w rest steep_on next.0 inside next.1
+          stuck view threshold t label cursor phase some arcs w rest steep_on next.0 inside next.1
     ]
 
 -- Once s is spent, each walk from s to t has more arcs than there are levels above s.
-pub farther : (view : ResidualView) (least s t : ℕ) (label cursor : List ℕ) → IsPhase view least t label cursor →
+pub farther : (view : ResidualView) (threshold s t : ℕ) (label cursor : List ℕ) → IsPhase view threshold t label cursor →
     get_or label s 0 ≡ 1 → s ≢ t → s < view.net.routers → IsSpent view.net cursor s →
-    IsFartherThan view least s t (get_or label t 0 - 1)
-farther view least s t label cursor phase start apart small spent arcs walk =
+    IsFartherThan view threshold s t (get_or label t 0 - 1)
+farther view threshold s t label cursor phase start apart small spent arcs walk =
     let some : 0 < get_or label t 0 = omega (arith, phase.levelled.most s, start) in
     let low = height-label phase.levelled.mid label s (omega arith) in
-    let above = climbs view least t label phase.levelled some arcs s walk in
+    let above = climbs view threshold t label phase.levelled some arcs s walk in
     elim (cases_lt (get_or label t 0 - 1) arcs) [
       | inl less ↦ less
       | inr short ↦
           let steep : get_or label t 0 ≡ height phase.levelled.mid label s + arcs = omega (arith, above, short, low) in
-          absurd (stuck view least t label cursor phase some arcs s walk steep apart small spent)
+          absurd (stuck view threshold t label cursor phase some arcs s walk steep apart small spent)
     ]
 
 -- ---- where a phase begins, and what all of it costs
 
 -- Cursors at each router's first place are a state of a phase.
-pub phase-begun : (view : ResidualView) (least t : ℕ) (label cursor : List ℕ) → IsSound view →
-    IsLevelled view least t label → t < view.net.routers → length cursor ≡ view.net.routers →
-    ((r : ℕ) → r < view.net.routers → get_or cursor r 0 ≡ begin_of view.net r) → IsPhase view least t label cursor
-phase-begun view least t label cursor sound levelled small size begun = record {
+pub phase-begun : (view : ResidualView) (threshold t : ℕ) (label cursor : List ℕ) → IsSound view →
+    IsLevelled view threshold t label → t < view.net.routers → length cursor ≡ view.net.routers →
+    ((r : ℕ) → r < view.net.routers → get_or cursor r 0 ≡ begin_of view.net r) → IsPhase view threshold t label cursor
+phase-begun view threshold t label cursor sound levelled small size begun = record {
   sound = sound;
   levelled = levelled;
   come = record {
@@ -150,10 +150,10 @@ sums-step f (x ∷ xs) (y ∷ ys) from long low high =
     omega (arith, sum_by-cons (λ n. n) x xs, sum_by-cons (λ n. n) y ys, rw end at rest)
 
 -- All cursors together move by the number of arcs at most.
-pub cursors-move : (view : ResidualView) (least t : ℕ) (label old new : List ℕ) → IsSound view →
-    IsPhase view least t label new → length old ≡ view.net.routers →
+pub cursors-move : (view : ResidualView) (threshold t : ℕ) (label old new : List ℕ) → IsSound view →
+    IsPhase view threshold t label new → length old ≡ view.net.routers →
     ((r : ℕ) → r < view.net.routers → get_or old r 0 ≡ begin_of view.net r) → sum new ≤ sum old + arc_count view.net
-cursors-move view least t label old new sound phase size begun =
+cursors-move view threshold t label old new sound phase size begun =
     let net : Net = view.net in
     let all = sums-step (begin_of net) old new 0 (omega (arith, size, phase.come.size))
     (λ i within. let same : 0 + i ≡ i = omega arith in rw same (omega (arith, begun i (omega (arith, size, within)))))

@@ -13,12 +13,12 @@ unfoldable pub paid : ℕ → ℕ → ℕ
 paid arcs distance = arcs * distance + (arcs + 1) * (distance * (distance + 1))
 
 -- So many phases were made, t is farther than a distance, and the steps are those of the phases up to it.
-pub record HasGrown (before after : ResidualView) (least s t value phases earlier steps : ℕ) : Type 0 where
+pub record HasGrown (before after : ResidualView) (threshold s t value phases earlier steps : ℕ) : Type 0 where
   pub distance : ℕ
   pub same : after ≡ record before { flow = after.flow }
   pub sound : IsSound after
   pub flow : IsFlow after.net s t after.flow value
-  pub farther : IsFartherThan after least s t distance
+  pub farther : IsFartherThan after threshold s t distance
   pub short : distance < after.net.routers
   pub few : phases ≤ distance
   pub some : 0 < distance → 0 < arc_count after.net
@@ -30,10 +30,10 @@ unfolding paid
 paid-none arcs = omega arith
 
 -- At least one arc leads from a router to another.
-walk-some : (view : ResidualView) (least s t : ℕ) → s ≢ t → (arcs : ℕ) → Walk view least arcs s t →
+walk-some : (view : ResidualView) (threshold s t : ℕ) → s ≢ t → (arcs : ℕ) → Walk view threshold arcs s t →
     (0 < arcs) × (0 < arc_count view.net)
-walk-some view least s t apart zero is = absurd (apart is)
-walk-some view least s t apart (suc arcs) (w, arc, rest) = (omega arith, omega (arith, arc.within))
+walk-some view threshold s t apart zero is = absurd (apart is)
+walk-some view threshold s t apart (suc arcs) (w, arc, rest) = (omega arith, omega (arith, arc.within))
 
 -- The phases up to a distance cost no more than those up to a larger one.
 pub paid-more : (arcs distance more : ℕ) → distance ≤ more → paid arcs distance ≤ paid arcs more
@@ -53,14 +53,14 @@ paid-next arcs distance = omega arith
 
 -- One phase more, over levels where t is farther than before.
 pub grows-on : (before between after : ResidualView)
-    (least s t value next phases earlier steps searched sent distance : ℕ)
-    (label : List ℕ) → HasGrown before between least s t value phases earlier steps →
-    IsJoined between least s t label distance → searched ≤ steps + arc_count between.net →
+    (threshold s t value next phases earlier steps searched sent distance : ℕ)
+    (label : List ℕ) → HasGrown before between threshold s t value phases earlier steps →
+    IsJoined between threshold s t label distance → searched ≤ steps + arc_count between.net →
     after ≡ record between { flow = after.flow } → IsSound after → IsFlow after.net s t after.flow next →
-    IsFartherThan after least s t (get_or label t 0 - 1) →
+    IsFartherThan after threshold s t (get_or label t 0 - 1) →
     sent ≤ searched + 2 * ((get_or label t 0 - 1) * (arc_count between.net + 1)) →
-    HasGrown before after least s t next (phases + 1) earlier sent
-grows-on before between after least s t value next phases earlier steps searched sent distance label old joined
+    HasGrown before after threshold s t next (phases + 1) earlier sent
+grows-on before between after threshold s t value next phases earlier steps searched sent distance label old joined
     looked same sound flow far cost =
     let net : after.net ≡ between.net = ap (λ (v : ResidualView). v.net) same in
     let arcs : ℕ = arc_count between.net in
@@ -80,7 +80,7 @@ grows-on before between after least s t value next phases earlier steps searched
       farther = rw top at far;
       short = rw net joined.short;
       few = omega (arith, old.few);
-      some = λ _. rw net (walk-some between least s t old.flow.differ_ends distance joined.walk).1;
+      some = λ _. rw net (walk-some between threshold s t old.flow.differ_ends distance joined.walk).1;
       cost = rw net (omega (arith, old.cost, looked, paid_now, less, more));
     }
 

@@ -9,10 +9,10 @@ use Rattle.dinic_flow.proofs.Walks.{walks-more}
 use Rattle.dinic_flow.proofs.Counting.{places-few}
 
 -- A queue that holds a router without a label nowhere has fewer places than there are routers.
-pub known-few : (view : ResidualView) (least : ℕ) (back : Bool) (label queue : List ℕ) (known w : ℕ) →
-    IsLabelled view least back label queue known → w < view.net.routers → get_or label w 0 ≡ 0 →
+pub known-few : (view : ResidualView) (threshold : ℕ) (back : Bool) (label queue : List ℕ) (known w : ℕ) →
+    IsLabelled view threshold back label queue known → w < view.net.routers → get_or label w 0 ≡ 0 →
     known < view.net.routers
-known-few view least back label queue known w old small none =
+known-few view threshold back label queue known w old small none =
     let alone : List ℕ = w ∷ [] in
     let most : known + 1 ≤ view.net.routers =
     places-few view.net.routers queue known alone 1 old.differ
@@ -26,8 +26,8 @@ known-few view least back label queue known w old small none =
     omega (arith, most)
 
 -- The router that is to be labelled: it lies over an open arc from a router with a label one smaller.
-pub record IsNext (view : ResidualView) (least : ℕ) (back : Bool) (label : List ℕ) (u w next : ℕ) : Type 0 where
-  pub leads : LeadsOn view least back u w
+pub record IsNext (view : ResidualView) (threshold : ℕ) (back : Bool) (label : List ℕ) (u w next : ℕ) : Type 0 where
+  pub leads : LeadsOn view threshold back u w
   pub tail : 0 < get_or label u 0
   pub level : get_or label u 0 + 1 ≡ next
   pub small : w < view.net.routers
@@ -44,9 +44,9 @@ label-kept label w next r none some =
 pub place-kept : (queue : List ℕ) (known w k : ℕ) → k < known → get_or (set queue known w) k 0 ≡ get_or queue k 0
 place-kept queue known w k below = get_or-set_other queue known k w 0 (λ same. absurd (omega (arith, same, below)))
 
-module _ (view : ResidualView) (least : ℕ) (back : Bool) (label queue : List ℕ) (known : ℕ)
-    (old : IsLabelled view least back label queue known) (u w next : ℕ)
-    (new : IsNext view least back label u w next) (room : known < length queue) where
+module _ (view : ResidualView) (threshold : ℕ) (back : Bool) (label queue : List ℕ) (known : ℕ)
+    (old : IsLabelled view threshold back label queue known) (u w next : ℕ)
+    (new : IsNext view threshold back label u w next) (room : known < length queue) where
   -- The new router has the label.
   new-label : get_or (set label w next) w 0 ≡ next
   new-label = get_or-set_same label w next 0 new.room
@@ -92,23 +92,23 @@ module _ (view : ResidualView) (least : ℕ) (back : Bool) (label queue : List �
 
   -- A walk leads to each of its routers.
   grown-walks : (k : ℕ) → k < known + 1 →
-      WalksOn view least back (get_or (set label w next) (get_or (set queue known w) k 0) 0 - 1)
+      WalksOn view threshold back (get_or (set label w next) (get_or (set queue known w) k 0) 0 - 1)
       (get_or (set queue known w) 0 0) (get_or (set queue known w) k 0)
   grown-walks k short = rw (place-kept queue known w 0 old.some) (elim (cases_lt k known) [
     | inl early ↦ rw (old-label k early, place-kept queue known w k early) (old.walks k early)
     | inr late ↦
         let last : k ≡ known = omega arith in
         let (i, below, is) = old.held u new.tail in
-        let first : WalksOn view least back (get_or label u 0 - 1) (get_or queue 0 0) u =
+        let first : WalksOn view threshold back (get_or label u 0 - 1) (get_or queue 0 0) u =
         rw is at (old.walks i below) in
-        let walk : WalksOn view least back (get_or label u 0 - 1 + 1) (get_or queue 0 0) w =
-        walks-more view least back (get_or label u 0 - 1) (get_or queue 0 0) u w first new.leads in
+        let walk : WalksOn view threshold back (get_or label u 0 - 1 + 1) (get_or queue 0 0) w =
+        walks-more view threshold back (get_or label u 0 - 1) (get_or queue 0 0) u w first new.leads in
         let arcs : get_or label u 0 - 1 + 1 ≡ next - 1 = omega (arith, new.tail, new.level) in
         rw (last, last-label, new-place) (rw arcs at walk)
   ])
 
   -- The queue and the labels with the new router are those of a search.
-  pub labelled-grown : IsLabelled view least back (set label w next) (set queue known w) (known + 1)
+  pub labelled-grown : IsLabelled view threshold back (set label w next) (set queue known w) (known + 1)
   labelled-grown = record {
     some = omega arith;
     centre = old-label 0 old.some ∙ old.centre;

@@ -12,10 +12,10 @@ use Rattle.dinic_flow.proofs.Walks.{walk-append, walk-arc, walks-none}
 use Rattle.dinic_flow.proofs.Counting.{places-few}
 
 -- A router nearer than the radius is closed: all its arcs were followed.
-pub inner-closed : (view : ResidualView) (least : ℕ) (back : Bool) (label queue : List ℕ)
-    (front stop known radius : ℕ) → IsBall view least back label queue front stop known radius →
-    (u : ℕ) → 0 < get_or label u 0 → get_or label u 0 ≤ radius → IsClosedAt view least back label u
-inner-closed view least back label queue front stop known radius ball u some near =
+pub inner-closed : (view : ResidualView) (threshold : ℕ) (back : Bool) (label queue : List ℕ)
+    (front stop known radius : ℕ) → IsBall view threshold back label queue front stop known radius →
+    (u : ℕ) → 0 < get_or label u 0 → get_or label u 0 ≤ radius → IsClosedAt view threshold back label u
+inner-closed view threshold back label queue front stop known radius ball u some near =
     let (k, short, is) = ball.labelled.held u some in
     let level : get_or label (get_or queue k 0) 0 ≤ radius = rw is near in
     elim (cases_lt k front) [
@@ -27,23 +27,23 @@ inner-closed view least back label queue front stop known radius ball u some nea
     ]
 
 -- A router of a whole ball is at most at the radius.
-pub whole-most : (view : ResidualView) (least : ℕ) (back : Bool) (label queue : List ℕ) (front known radius : ℕ) →
-    IsBall view least back label queue front known known radius →
+pub whole-most : (view : ResidualView) (threshold : ℕ) (back : Bool) (label queue : List ℕ) (front known radius : ℕ) →
+    IsBall view threshold back label queue front known known radius →
     (r : ℕ) → 0 < get_or label r 0 → get_or label r 0 ≤ radius + 1
-whole-most view least back label queue front known radius ball r some =
+whole-most view threshold back label queue front known radius ball r some =
     let (k, short, is) = ball.labelled.held r some in
     subst (λ (x : ℕ). get_or label x 0 ≤ radius + 1) is (ball.inside k short)
 
 -- A router of a whole ball from which an open arc leads out of the ball is at the radius.
-pub at-rim : (view : ResidualView) (least : ℕ) (back : Bool) (label queue : List ℕ) (front known radius : ℕ) →
-    IsBall view least back label queue front known known radius → (u v : ℕ) → 0 < get_or label u 0 →
-    LeadsOn view least back u v → get_or label v 0 ≡ 0 →
+pub at-rim : (view : ResidualView) (threshold : ℕ) (back : Bool) (label queue : List ℕ) (front known radius : ℕ) →
+    IsBall view threshold back label queue front known known radius → (u v : ℕ) → 0 < get_or label u 0 →
+    LeadsOn view threshold back u v → get_or label v 0 ≡ 0 →
     (get_or label u 0 ≡ radius + 1) × (front < known)
-at-rim view least back label queue front known radius ball u v some leads none =
+at-rim view threshold back label queue front known radius ball u v some leads none =
     let (k, short, is) = ball.labelled.held u some in
     elim (cases_lt k front) [
       | inl early ↦
-          let closed : IsClosedAt view least back label u = rw is at (ball.closed k early) in
+          let closed : IsClosedAt view threshold back label u = rw is at (ball.closed k early) in
           absurd (omega (arith, none, (closed v leads).0))
       | inr late ↦
           let level : get_or label u 0 ≡ radius + 1 = rw is at (ball.rim k late short) in
@@ -51,22 +51,22 @@ at-rim view least back label queue front known radius ball u v some leads none =
     ]
 
 -- Only the centre has the label 1.
-pub centre-only : (view : ResidualView) (least : ℕ) (back : Bool) (label queue : List ℕ) (known : ℕ) →
-    IsLabelled view least back label queue known → (r : ℕ) → get_or label r 0 ≡ 1 → r ≡ get_or queue 0 0
-centre-only view least back label queue known labelled r is_one =
+pub centre-only : (view : ResidualView) (threshold : ℕ) (back : Bool) (label queue : List ℕ) (known : ℕ) →
+    IsLabelled view threshold back label queue known → (r : ℕ) → get_or label r 0 ≡ 1 → r ≡ get_or queue 0 0
+centre-only view threshold back label queue known labelled r is_one =
     let (k, short, is) = labelled.held r (omega (arith, is_one)) in
-    let walk : WalksOn view least back (get_or label (get_or queue k 0) 0 - 1) (get_or queue 0 0) (get_or queue k 0) =
+    let walk : WalksOn view threshold back (get_or label (get_or queue k 0) 0 - 1) (get_or queue 0 0) (get_or queue k 0) =
     labelled.walks k short in
     let none : get_or label (get_or queue k 0) 0 - 1 ≡ 0 = rw is (omega (arith, is_one)) in
-    sym is ∙ sym (walks-none view least back (get_or queue 0 0) (get_or queue k 0) (rw none at walk))
+    sym is ∙ sym (walks-none view threshold back (get_or queue 0 0) (get_or queue k 0) (rw none at walk))
 
 -- A walk leads to each router with a label.
-pub walk-to : (view : ResidualView) (least : ℕ) (back : Bool) (label queue : List ℕ) (known : ℕ) →
-    IsLabelled view least back label queue known → (r arcs : ℕ) → get_or label r 0 ≡ arcs + 1 →
-    WalksOn view least back arcs (get_or queue 0 0) r
-walk-to view least back label queue known labelled r arcs level =
+pub walk-to : (view : ResidualView) (threshold : ℕ) (back : Bool) (label queue : List ℕ) (known : ℕ) →
+    IsLabelled view threshold back label queue known → (r arcs : ℕ) → get_or label r 0 ≡ arcs + 1 →
+    WalksOn view threshold back arcs (get_or queue 0 0) r
+walk-to view threshold back label queue known labelled r arcs level =
     let (k, short, is) = labelled.held r (omega (arith, level)) in
-    let walk : WalksOn view least back (get_or label r 0 - 1) (get_or queue 0 0) r =
+    let walk : WalksOn view threshold back (get_or label r 0 - 1) (get_or queue 0 0) r =
     rw is at (labelled.walks k short) in
     let count : get_or label r 0 - 1 ≡ arcs = omega (arith, level) in
     rw count at walk
@@ -107,10 +107,10 @@ height-some mid label r some = rw (ne_eqb (get_or label r 0) 0 (λ e. omega (ari
 height-none : (mid : ℕ) (label : List ℕ) (r : ℕ) → get_or label r 0 ≡ 0 → height mid label r ≡ mid
 height-none mid label r none = rw (eq-eqb (get_or label r 0) 0 none) refl
 
-module _ (view : ResidualView) (least : ℕ) (label marks final ahead behind : List ℕ)
+module _ (view : ResidualView) (threshold : ℕ) (label marks final ahead behind : List ℕ)
     (front_s stop_s known_s a front_t stop_t known_t b : ℕ)
-    (near : IsBall view least false label ahead front_s stop_s known_s a)
-    (far : IsBall view least true marks behind front_t stop_t known_t b) (apart : AreApart label marks)
+    (near : IsBall view threshold false label ahead front_s stop_s known_s a)
+    (far : IsBall view threshold true marks behind front_t stop_t known_t b) (apart : AreApart label marks)
     (one : IsOneNumbering label marks final a b) where
   -- Each router is of one of the three kinds.
   kind-of : (r : ℕ) → IsNear label final a r ⊎ (IsFar marks final a b r ⊎ IsBare label marks final a b r)
@@ -157,19 +157,19 @@ module _ (view : ResidualView) (least : ℕ) (label marks final ahead behind : L
   ]
 
   -- Followed from a router nearer to s than the radius, an open arc leads to a router of the ball.
-  near-closed : (u v : ℕ) → OpenArc view least u v → 0 < get_or label u 0 → get_or label u 0 ≤ a →
+  near-closed : (u v : ℕ) → OpenArc view threshold u v → 0 < get_or label u 0 → get_or label u 0 ≤ a →
       (0 < get_or label v 0) × (get_or label v 0 ≤ get_or label u 0 + 1)
   near-closed u v arc some within =
-      inner-closed view least false label ahead front_s stop_s known_s a near u some within v arc
+      inner-closed view threshold false label ahead front_s stop_s known_s a near u some within v arc
 
   -- Followed back from a router nearer to t than the radius, too.
-  far-closed : (u v : ℕ) → OpenArc view least u v → 0 < get_or marks v 0 → get_or marks v 0 ≤ b →
+  far-closed : (u v : ℕ) → OpenArc view threshold u v → 0 < get_or marks v 0 → get_or marks v 0 ≤ b →
       (0 < get_or marks u 0) × (get_or marks u 0 ≤ get_or marks v 0 + 1)
   far-closed u v arc some within =
-      inner-closed view least true marks behind front_t stop_t known_t b far v some within u arc
+      inner-closed view threshold true marks behind front_t stop_t known_t b far v some within u arc
 
   -- An open arc into the ball about t, which doesn't begin in it, leads to its rim.
-  into-far : (u v : ℕ) → OpenArc view least u v → IsFar marks final a b v →
+  into-far : (u v : ℕ) → OpenArc view threshold u v → IsFar marks final a b v →
       (0 < get_or marks u 0 → b + 1 < get_or marks u 0) → get_or final v 0 ≡ a + 2
   into-far u v arc v_far outside = elim (cases_lt (get_or marks v 0) (b + 1)) [
     | inl inner ↦
@@ -179,7 +179,7 @@ module _ (view : ResidualView) (least : ℕ) (label marks final ahead behind : L
   ]
 
   -- An open arc from a router of the ball about s rises by one at most.
-  rise-near : (u v : ℕ) → OpenArc view least u v → IsNear label final a u →
+  rise-near : (u v : ℕ) → OpenArc view threshold u v → IsNear label final a u →
       height (a + 2) final v ≤ get_or final u 0 + 1
   rise-near u v arc u_near =
       let no_mark : get_or marks u 0 ≡ 0 = apart u u_near.some in
@@ -211,7 +211,7 @@ module _ (view : ResidualView) (least : ℕ) (label marks final ahead behind : L
       ]
 
   -- So does one from a router of the ball about t.
-  rise-far : (u v : ℕ) → OpenArc view least u v → IsFar marks final a b u →
+  rise-far : (u v : ℕ) → OpenArc view threshold u v → IsFar marks final a b u →
       height (a + 2) final v ≤ get_or final u 0 + 1
   rise-far u v arc u_far = elim (kind-of v) [
     | inl v_near ↦
@@ -231,7 +231,7 @@ module _ (view : ResidualView) (least : ℕ) (label marks final ahead behind : L
   ]
 
   -- No open arc that leaves a router beyond both balls rises above the middle.
-  stay-bare : (u v : ℕ) → OpenArc view least u v → IsBare label marks final a b u →
+  stay-bare : (u v : ℕ) → OpenArc view threshold u v → IsBare label marks final a b u →
       height (a + 2) final v ≤ a + 2
   stay-bare u v arc u_bare = elim (kind-of v) [
     | inl v_near ↦
@@ -246,7 +246,7 @@ module _ (view : ResidualView) (least : ℕ) (label marks final ahead behind : L
   ]
 
   -- An open arc rises by one at most.
-  rise : (u v : ℕ) → OpenArc view least u v → height (a + 2) final v ≤ height (a + 2) final u + 1
+  rise : (u v : ℕ) → OpenArc view threshold u v → height (a + 2) final v ≤ height (a + 2) final u + 1
   rise u v arc = elim (kind-of u) [
     | inl u_near ↦
         rw (height-some (a + 2) final u (omega (arith, u_near.is, u_near.some))) (rise-near u v arc u_near)
@@ -259,7 +259,7 @@ module _ (view : ResidualView) (least : ℕ) (label marks final ahead behind : L
   ]
 
   -- None that leaves a router without a label rises.
-  stay : (u v : ℕ) → OpenArc view least u v → get_or final u 0 ≡ 0 → height (a + 2) final v ≤ a + 2
+  stay : (u v : ℕ) → OpenArc view threshold u v → get_or final u 0 ≡ 0 → height (a + 2) final v ≤ a + 2
   stay u v arc none = elim (kind-of u) [
     | inl u_near ↦ absurd (omega (arith, none, u_near.is, u_near.some))
     | inr rest ↦ elim rest [
@@ -284,7 +284,7 @@ module _ (view : ResidualView) (least : ℕ) (label marks final ahead behind : L
     | inl r_near ↦ absurd (omega (arith, r_near.is, r_near.most, largest))
     | inr rest ↦ elim rest [
       | inl r_far ↦
-          centre-only view least true marks behind known_t far.labelled r (omega (arith, r_far.is, largest))
+          centre-only view threshold true marks behind known_t far.labelled r (omega (arith, r_far.is, largest))
       | inr r_bare ↦ absurd (omega (arith, r_bare.is, largest))
     ]
   ]
@@ -318,7 +318,7 @@ module _ (view : ResidualView) (least : ℕ) (label marks final ahead behind : L
 
   -- The numbering makes levels.
   levels : length final ≡ view.net.routers → front_s < known_s → front_t < known_t →
-      IsLevelled view least (get_or behind 0 0) final
+      IsLevelled view threshold (get_or behind 0 0) final
   levels size some_s some_t = record {
     mid = a + 2;
     size = size;
@@ -332,18 +332,18 @@ module _ (view : ResidualView) (least : ℕ) (label marks final ahead behind : L
   }
 
   -- Where an open arc leads from the rim of the one ball to that of the other, they are joined.
-  pub joined : (u v : ℕ) → OpenArc view least u v → get_or label u 0 ≡ a + 1 → get_or marks v 0 ≡ b + 1 →
+  pub joined : (u v : ℕ) → OpenArc view threshold u v → get_or label u 0 ≡ a + 1 → get_or marks v 0 ≡ b + 1 →
       length final ≡ view.net.routers → front_s < known_s → front_t < known_t →
-      IsJoined view least (get_or ahead 0 0) (get_or behind 0 0) final (a + b + 1)
+      IsJoined view threshold (get_or ahead 0 0) (get_or behind 0 0) final (a + b + 1)
   joined u v arc level mark size some_s some_t =
-      let to : Walk view least a (get_or ahead 0 0) u =
-      walk-to view least false label ahead known_s near.labelled u a level in
-      let from : Walk view least b v (get_or behind 0 0) =
-      walk-to view least true marks behind known_t far.labelled v b mark in
-      let over : Walk view least (a + 1) (get_or ahead 0 0) v =
-      walk-append view least a 1 (get_or ahead 0 0) u v to (walk-arc view least u v arc) in
-      let whole : Walk view least (a + 1 + b) (get_or ahead 0 0) (get_or behind 0 0) =
-      walk-append view least (a + 1) b (get_or ahead 0 0) v (get_or behind 0 0) over from in
+      let to : Walk view threshold a (get_or ahead 0 0) u =
+      walk-to view threshold false label ahead known_s near.labelled u a level in
+      let from : Walk view threshold b v (get_or behind 0 0) =
+      walk-to view threshold true marks behind known_t far.labelled v b mark in
+      let over : Walk view threshold (a + 1) (get_or ahead 0 0) v =
+      walk-append view threshold a 1 (get_or ahead 0 0) u v to (walk-arc view threshold u v arc) in
+      let whole : Walk view threshold (a + 1 + b) (get_or ahead 0 0) (get_or behind 0 0) =
+      walk-append view threshold (a + 1) b (get_or ahead 0 0) v (get_or behind 0 0) over from in
       let count : a + 1 + b ≡ a + b + 1 = omega arith in
       record {
         some = omega arith;

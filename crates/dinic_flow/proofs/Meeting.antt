@@ -50,34 +50,34 @@ part-of queue i j k late below within =
     )
 
 -- What is in the front of a queue is a router.
-pub front-routers : (view : ResidualView) (least : ℕ) (back : Bool) (label queue : List ℕ) (known n size : ℕ) →
-    IsLabelled view least back label queue known → n ≤ known → view.net.routers ≤ size →
+pub front-routers : (view : ResidualView) (threshold : ℕ) (back : Bool) (label queue : List ℕ) (known n size : ℕ) →
+    IsLabelled view threshold back label queue known → n ≤ known → view.net.routers ≤ size →
     All (λ r. r < size) (take n queue)
-front-routers view least back label queue known n size labelled within large =
+front-routers view threshold back label queue known n size labelled within large =
     All-from_get_or (λ r. r < size) (take n queue) 0 (λ k short.
     let (below, is) = front-at queue n k short in
     rw is (omega (arith, labelled.routers k (omega (arith, below, within)), large)))
 
 -- So is what is in a part of it.
-pub part-routers : (view : ResidualView) (least : ℕ) (back : Bool) (label queue : List ℕ) (known i j size : ℕ) →
-    IsLabelled view least back label queue known → j ≤ known → view.net.routers ≤ size →
+pub part-routers : (view : ResidualView) (threshold : ℕ) (back : Bool) (label queue : List ℕ) (known i j size : ℕ) →
+    IsLabelled view threshold back label queue known → j ≤ known → view.net.routers ≤ size →
     All (λ r. r < size) (take (j - i) (drop i queue))
-part-routers view least back label queue known i j size labelled within large =
+part-routers view threshold back label queue known i j size labelled within large =
     All-from_get_or (λ r. r < size) (take (j - i) (drop i queue)) 0 (λ k short.
     let (below, is) = part-at queue i j k short in
     rw is (omega (arith, labelled.routers (i + k) (omega (arith, below, within)), large)))
 
 -- After a round of the ball about s: what it found beyond the rim has lost its label, and the routers of the ball
 -- about t have theirs.
-pub numbered-near : (view : ResidualView) (least : ℕ) (label marks bare final ahead behind : List ℕ)
+pub numbered-near : (view : ResidualView) (threshold : ℕ) (label marks bare final ahead behind : List ℕ)
     (front_s stop_s known_s a front_t known_t b : ℕ) →
-    IsBall view least false label ahead front_s stop_s known_s a →
-    IsBall view least true marks behind front_t known_t known_t b →
+    IsBall view threshold false label ahead front_s stop_s known_s a →
+    IsBall view threshold true marks behind front_t known_t known_t b →
     AreApart label marks → known_s ≤ length ahead → known_t ≤ length behind →
     IsLetOut label bare (take (known_s - stop_s) (drop stop_s ahead)) →
     IsNumbered bare final marks (take known_t behind) (a + b + 1 + 2) →
     IsOneNumbering label marks final a b
-numbered-near view least label marks bare final ahead behind front_s stop_s known_s a front_t known_t b near far
+numbered-near view threshold label marks bare final ahead behind front_s stop_s known_s a front_t known_t b near far
     apart room_s room_t out numbered =
     let shed : List ℕ = take (known_s - stop_s) (drop stop_s ahead) in
     let beyond : (r k : ℕ) → k < length shed → get_or shed k 0 ≡ r → get_or label r 0 ≡ a + 2 = λ r k short is.
@@ -107,7 +107,7 @@ numbered-near view least label marks bare final ahead behind front_s stop_s know
                 absurd (omega (
                   arith,
                   out_of some,
-                  whole-most view least true marks behind front_t known_t b far r some,
+                  whole-most view threshold true marks behind front_t known_t b far r some,
                 ))
             | inr bare_r ↦ final-kept r (omega (arith, bare_r)) ∙ elim (cases_lt 0 (get_or label r 0)) [
               | inl some ↦
@@ -128,14 +128,14 @@ numbered-near view least label marks bare final ahead behind front_s stop_s know
 
 -- After a round of the ball about t: the routers within its radius have their labels, and what it found beyond has
 -- none.
-pub numbered-far : (view : ResidualView) (least : ℕ) (label marks final ahead behind : List ℕ)
+pub numbered-far : (view : ResidualView) (threshold : ℕ) (label marks final ahead behind : List ℕ)
     (front_s known_s a front_t stop_t known_t b : ℕ) →
-    IsBall view least false label ahead front_s known_s known_s a →
-    IsBall view least true marks behind front_t stop_t known_t b →
+    IsBall view threshold false label ahead front_s known_s known_s a →
+    IsBall view threshold true marks behind front_t stop_t known_t b →
     AreApart label marks → stop_t ≤ length behind →
     IsNumbered label final marks (take stop_t behind) (a + b + 1 + 2) →
     IsOneNumbering label marks final a b
-numbered-far view least label marks final ahead behind front_s known_s a front_t stop_t known_t b near far apart
+numbered-far view threshold label marks final ahead behind front_s known_s a front_t stop_t known_t b near far apart
     room_t numbered =
     let marked : (r k : ℕ) → k < length (take stop_t behind) → get_or (take stop_t behind) k 0 ≡ r →
     (0 < get_or marks r 0) × (get_or marks r 0 ≤ b + 1) = λ r k short is.
@@ -164,7 +164,7 @@ numbered-far view least label marks final ahead behind front_s known_s a front_t
             absurd (omega (
               arith,
               far_off some,
-              whole-most view least false label ahead front_s known_s a near r some,
+              whole-most view threshold false label ahead front_s known_s a near r some,
             ))
         | inr bare ↦
             numbered.kept r (λ k short is.
@@ -175,50 +175,50 @@ numbered-far view least label marks final ahead behind front_s known_s a front_t
     }
 
 -- A round of the ball about s that an open arc stops joins the balls.
-pub joined-near : (view : ResidualView) (least s t : ℕ) (label marks bare final ahead behind : List ℕ)
+pub joined-near : (view : ResidualView) (threshold s t : ℕ) (label marks bare final ahead behind : List ℕ)
     (front_s stop_s known_s a front_t known_t b : ℕ) →
-    IsBall view least false label ahead front_s stop_s known_s a →
-    IsBall view least true marks behind front_t known_t known_t b →
+    IsBall view threshold false label ahead front_s stop_s known_s a →
+    IsBall view threshold true marks behind front_t known_t known_t b →
     AreApart label marks → front_s < stop_s → known_s ≤ length ahead → known_t ≤ length behind →
-    Meets view least false label marks a →
+    Meets view threshold false label marks a →
     IsLetOut label bare (take (known_s - stop_s) (drop stop_s ahead)) →
     IsNumbered bare final marks (take known_t behind) (a + b + 1 + 2) →
     length final ≡ view.net.routers → get_or ahead 0 0 ≡ s → get_or behind 0 0 ≡ t →
-    IsJoined view least s t final (a + b + 1)
-joined-near view least s t label marks bare final ahead behind front_s stop_s known_s a front_t known_t b near far
+    IsJoined view threshold s t final (a + b + 1)
+joined-near view threshold s t label marks bare final ahead behind front_s stop_s known_s a front_t known_t b near far
     apart some_s room_s room_t meets out numbered size start end =
     let u : ℕ = meets.from in
     let v : ℕ = meets.crosses.to in
     let none : get_or marks u 0 ≡ 0 = apart u (omega (arith, meets.level)) in
-    let rim = at-rim view least true marks behind front_t known_t b far v u meets.crosses.marked
+    let rim = at-rim view threshold true marks behind front_t known_t b far v u meets.crosses.marked
     meets.crosses.leads none in
-    let both : IsJoined view least (get_or ahead 0 0) (get_or behind 0 0) final (a + b + 1) =
-    joined view least label marks final ahead behind front_s stop_s known_s a front_t known_t known_t b near far apart
-    (numbered-near view least label marks bare final ahead behind front_s stop_s known_s a front_t known_t b near far
+    let both : IsJoined view threshold (get_or ahead 0 0) (get_or behind 0 0) final (a + b + 1) =
+    joined view threshold label marks final ahead behind front_s stop_s known_s a front_t known_t known_t b near far apart
+    (numbered-near view threshold label marks bare final ahead behind front_s stop_s known_s a front_t known_t b near far
     apart room_s room_t out numbered)
     u v meets.crosses.leads meets.level rim.0 size (omega (arith, some_s, near.within)) rim.1 in
     rw (start, end) at both
 
 -- So does a round of the ball about t.
-pub joined-far : (view : ResidualView) (least s t : ℕ) (label marks final ahead behind : List ℕ)
+pub joined-far : (view : ResidualView) (threshold s t : ℕ) (label marks final ahead behind : List ℕ)
     (front_s known_s a front_t stop_t known_t b : ℕ) →
-    IsBall view least false label ahead front_s known_s known_s a →
-    IsBall view least true marks behind front_t stop_t known_t b →
+    IsBall view threshold false label ahead front_s known_s known_s a →
+    IsBall view threshold true marks behind front_t stop_t known_t b →
     AreApart label marks → front_t < stop_t → stop_t ≤ length behind →
-    Meets view least true marks label b →
+    Meets view threshold true marks label b →
     IsNumbered label final marks (take stop_t behind) (a + b + 1 + 2) →
     length final ≡ view.net.routers → get_or ahead 0 0 ≡ s → get_or behind 0 0 ≡ t →
-    IsJoined view least s t final (a + b + 1)
-joined-far view least s t label marks final ahead behind front_s known_s a front_t stop_t known_t b near far apart
+    IsJoined view threshold s t final (a + b + 1)
+joined-far view threshold s t label marks final ahead behind front_s known_s a front_t stop_t known_t b near far apart
     some_t room_t meets numbered size start end =
     let v : ℕ = meets.from in
     let u : ℕ = meets.crosses.to in
     let none : get_or label v 0 ≡ 0 = apart-turned label marks apart v (omega (arith, meets.level)) in
-    let rim = at-rim view least false label ahead front_s known_s a near u v meets.crosses.marked
+    let rim = at-rim view threshold false label ahead front_s known_s a near u v meets.crosses.marked
     meets.crosses.leads none in
-    let both : IsJoined view least (get_or ahead 0 0) (get_or behind 0 0) final (a + b + 1) =
-    joined view least label marks final ahead behind front_s known_s known_s a front_t stop_t known_t b near far apart
-    (numbered-far view least label marks final ahead behind front_s known_s a front_t stop_t known_t b near far
+    let both : IsJoined view threshold (get_or ahead 0 0) (get_or behind 0 0) final (a + b + 1) =
+    joined view threshold label marks final ahead behind front_s known_s known_s a front_t stop_t known_t b near far apart
+    (numbered-far view threshold label marks final ahead behind front_s known_s a front_t stop_t known_t b near far
     apart room_t numbered)
     u v meets.crosses.leads rim.0 meets.level size rim.1 (omega (arith, some_t, far.within)) in
     rw (start, end) at both
@@ -245,12 +245,12 @@ front-contains queue n r within (k, short, is) =
     )
 
 -- A ball about s that can't grow, and in which t isn't, is all that s reaches.
-pub parted : (view : ResidualView) (least s t : ℕ) (label marks ahead behind : List ℕ) (front known radius : ℕ) →
-    IsBall view least false label ahead front known known radius → known ≤ front → AreApart label marks →
+pub parted : (view : ResidualView) (threshold s t : ℕ) (label marks ahead behind : List ℕ) (front known radius : ℕ) →
+    IsBall view threshold false label ahead front known known radius → known ≤ front → AreApart label marks →
     known ≤ length ahead → get_or ahead 0 0 ≡ s → get_or marks (get_or behind 0 0) 0 ≡ 1 → get_or behind 0 0 ≡ t →
-    IsApart view least s t (take known ahead)
-parted view least s t label marks ahead behind front known radius ball whole apart room start mark end = record {
-  within = front-routers view least false label ahead known known view.net.routers ball.labelled (omega arith)
+    IsApart view threshold s t (take known ahead)
+parted view threshold s t label marks ahead behind front known radius ball whole apart room start mark end = record {
+  within = front-routers view threshold false label ahead known known view.net.routers ball.labelled (omega arith)
       (omega arith);
   holds = contains-front ahead known 0 s ball.labelled.some room start;
   lacks = λ inside.
@@ -260,7 +260,7 @@ parted view least s t label marks ahead behind front known radius ball whole apa
       omega (arith, one, apart t some);
   closed = λ arc within is_open inside.
       let (k, short, is) = front-contains ahead known (tail_of view.net arc) room inside in
-      let leads : LeadsOn view least false (get_or ahead k 0) (head_of view.net arc) =
+      let leads : LeadsOn view threshold false (get_or ahead k 0) (head_of view.net arc) =
       record { arc = arc; within = within; tail = sym is; head = refl; is_open = is_open } in
       let there = ball.closed k (omega (arith, short, whole)) (head_of view.net arc) leads in
       let (j, below, same) = ball.labelled.held (head_of view.net arc) there.0 in
@@ -270,14 +270,14 @@ parted view least s t label marks ahead behind front known radius ball whole apa
       let some : 0 < get_or label r 0 = rw is at (ball.labelled.positive k short) in
       let level : get_or label r 0 ≡ get_or label r 0 - 1 + 1 = omega (arith, some) in (
         get_or label r 0 - 1,
-        rw start at (walk-to view least false label ahead known ball.labelled r (get_or label r 0 - 1) level),
+        rw start at (walk-to view threshold false label ahead known ball.labelled r (get_or label r 0 - 1) level),
       );
 }
 
 -- A walk of no arc leads from each router to itself.
-walks-still : (view : ResidualView) (least : ℕ) (back : Bool) (u : ℕ) → WalksOn view least back 0 u u
-walks-still view least false u = refl
-walks-still view least true u = refl
+walks-still : (view : ResidualView) (threshold : ℕ) (back : Bool) (u : ℕ) → WalksOn view threshold back 0 u u
+walks-still view threshold false u = refl
+walks-still view threshold true u = refl
 
 -- Labels that only the centre has.
 record IsAlone (label : List ℕ) (centre : ℕ) : Type 0 where
@@ -299,10 +299,10 @@ alone-begun label size centre is within =
     }
 
 -- A ball begins with its centre.
-pub begun-ball : (view : ResidualView) (least : ℕ) (back : Bool) (label before queue : List ℕ) (size centre : ℕ) →
+pub begun-ball : (view : ResidualView) (threshold : ℕ) (back : Bool) (label before queue : List ℕ) (size centre : ℕ) →
     label ≡ set (replicate size 0) centre 1 → queue ≡ set before 0 centre → centre < size → 0 < length before →
-    centre < view.net.routers → IsBall view least back label queue 0 1 1 0
-begun-ball view least back label before queue size centre is put within room small =
+    centre < view.net.routers → IsBall view threshold back label queue 0 1 1 0
+begun-ball view threshold back label before queue size centre is put within room small =
     let alone : IsAlone label centre = alone-begun label size centre is within in
     let first : get_or queue 0 0 ≡ centre = rw put (get_or-set_same before 0 centre 0 room) in
     let level : get_or label (get_or queue 0 0) 0 ≡ 1 = rw first alone.here in
@@ -320,7 +320,7 @@ begun-ball view least back label before queue size centre is put within room sma
         differ = λ i j below short. absurd (omega (arith, below, short));
         walks = λ k short.
             let none : get_or label (get_or queue 0 0) 0 - 1 ≡ 0 = omega (arith, level) in
-            rw (zero_only k short, none) (walks-still view least back (get_or queue 0 0));
+            rw (zero_only k short, none) (walks-still view threshold back (get_or queue 0 0));
       };
       ordered = omega arith;
       within = omega arith;
@@ -348,12 +348,12 @@ begun-apart label marks size size_too s t is is_too within within_too differ r s
     ]
 
 -- What was followed of both balls is at most all arcs.
-pub work-both : (view : ResidualView) (least : ℕ) (label marks ahead behind : List ℕ)
+pub work-both : (view : ResidualView) (threshold : ℕ) (label marks ahead behind : List ℕ)
     (front_s stop_s known_s a front_t stop_t known_t b k l : ℕ) →
-    IsBall view least false label ahead front_s stop_s known_s a →
-    IsBall view least true marks behind front_t stop_t known_t b → AreApart label marks → k ≤ known_s → l ≤ known_t →
+    IsBall view threshold false label ahead front_s stop_s known_s a →
+    IsBall view threshold true marks behind front_t stop_t known_t b → AreApart label marks → k ≤ known_s → l ≤ known_t →
     work_of view.net ahead k + work_of view.net behind l ≤ arc_count view.net
-work-both view least label marks ahead behind front_s stop_s known_s a front_t stop_t known_t b k l near far apart
+work-both view threshold label marks ahead behind front_s stop_s known_s a front_t stop_t known_t b k l near far apart
     within within_too =
     work-few view.net ahead k behind l
     (λ i j below short. near.labelled.differ i j below (omega (arith, short, within)))

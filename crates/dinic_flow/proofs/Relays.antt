@@ -100,20 +100,20 @@ height-label mid label r some = elim (cases_eq (get_or label r 0) 0) [
 ]
 
 -- An arc that is open after a push was open before, or leads a level back.
-open-before : (before after : ResidualView) (label : List ℕ) (least arc amount other : ℕ) →
-    IsPush before after label arc amount → IsOpen after least other →
-    IsOpen before least other ⊎ IsTwin before.net other arc
-open-before before after label least arc amount other push is_open =
+open-before : (before after : ResidualView) (label : List ℕ) (threshold arc amount other : ℕ) →
+    IsPush before after label arc amount → IsOpen after threshold other →
+    IsOpen before threshold other ⊎ IsTwin before.net other arc
+open-before before after label threshold arc amount other push is_open =
     elim (push-falls before after label arc amount other push) [
       | inl falls ↦ inl (le-twice _ _ _ is_open falls)
       | inr twin ↦ inr twin
     ]
 
 -- Levels stay ones after a push along an arc that leads on.
-levelled-push : (before after : ResidualView) (least t : ℕ) (label : List ℕ) (arc amount : ℕ) →
+levelled-push : (before after : ResidualView) (threshold t : ℕ) (label : List ℕ) (arc amount : ℕ) →
     IsPush before after label arc amount → 0 < get_or label (tail_of before.net arc) 0 →
-    IsLevelled before least t label → IsLevelled after least t label
-levelled-push before after least t label arc amount push some old =
+    IsLevelled before threshold t label → IsLevelled after threshold t label
+levelled-push before after threshold t label arc amount push some old =
     let net : after.net ≡ before.net = push-net before after label arc amount push in
     let low = height-label old.mid label (tail_of before.net arc) some in
     let high = height-label old.mid label (head_of before.net arc) (omega (arith, push.leads)) in
@@ -123,21 +123,21 @@ levelled-push before after least t label arc amount push some old =
       few = rw net old.few;
       most = old.most;
       only = old.only;
-      rises = λ other within is_open. elim (open-before before after label least arc amount other push is_open) [
+      rises = λ other within is_open. elim (open-before before after label threshold arc amount other push is_open) [
         | inl was ↦ rw net (old.rises other (rw net at within) was)
         | inr twin ↦ rw (net, twin.head, twin.tail) (omega (arith, low, high, push.leads))
       ];
-      stays = λ other within is_open none. elim (open-before before after label least arc amount other push is_open) [
+      stays = λ other within is_open none. elim (open-before before after label threshold arc amount other push is_open) [
         | inl was ↦ rw net (old.stays other (rw net at within) was (rw net at none))
         | inr twin ↦ absurd (omega (arith, rw (net, twin.tail) at none, push.leads))
       ];
     }
 
 -- What is blocked stays blocked after a push along an arc that leads on.
-blocked-push : (before after : ResidualView) (least t : ℕ) (label cursor : List ℕ) (arc amount other : ℕ) →
-    IsPush before after label arc amount → IsBlocked before least t label cursor other →
-    IsBlocked after least t label cursor other
-blocked-push before after least t label cursor arc amount other push old leads =
+blocked-push : (before after : ResidualView) (threshold t : ℕ) (label cursor : List ℕ) (arc amount other : ℕ) →
+    IsPush before after label arc amount → IsBlocked before threshold t label cursor other →
+    IsBlocked after threshold t label cursor other
+blocked-push before after threshold t label cursor arc amount other push old leads =
     let net : after.net ≡ before.net = push-net before after label arc amount push in
     let led : Rises before.net label other = rw net at leads in
     elim (push-falls before after label arc amount other push) [
@@ -152,24 +152,24 @@ blocked-push before after least t label cursor arc amount other push old leads =
     lt-le x y z first second = omega (arith, ints, first, second)
 
 -- A state of a phase stays one after a push along an arc that leads on.
-pub phase-push : (before after : ResidualView) (least t : ℕ) (label cursor : List ℕ) (arc amount : ℕ) →
+pub phase-push : (before after : ResidualView) (threshold t : ℕ) (label cursor : List ℕ) (arc amount : ℕ) →
     IsPush before after label arc amount → 0 < get_or label (tail_of before.net arc) 0 → IsSound after →
-    IsPhase before least t label cursor → IsPhase after least t label cursor
-phase-push before after least t label cursor arc amount push some sound old =
+    IsPhase before threshold t label cursor → IsPhase after threshold t label cursor
+phase-push before after threshold t label cursor arc amount push some sound old =
     let net : after.net ≡ before.net = push-net before after label arc amount push in
     record {
       sound = sound;
-      levelled = levelled-push before after least t label arc amount push some old.levelled;
+      levelled = levelled-push before after threshold t label arc amount push some old.levelled;
       come = record {
         size = rw net old.come.size;
         fresh = rw net old.come.fresh;
         above = λ r small. rw net (old.come.above r (rw net at small));
         below = λ r small. rw net (old.come.below r (rw net at small));
         blocked = λ r at small low high.
-            let was : IsBlocked before least t label cursor (place_at before.net at).arc =
+            let was : IsBlocked before threshold t label cursor (place_at before.net at).arc =
             old.come.blocked r at (rw net at small) (rw net at low) high in
-            subst (λ (n : Net). IsBlocked after least t label cursor (place_at n at).arc) (sym net)
-            (blocked-push before after least t label cursor arc amount (place_at before.net at).arc push was);
+            subst (λ (n : Net). IsBlocked after threshold t label cursor (place_at n at).arc) (sym net)
+            (blocked-push before after threshold t label cursor arc amount (place_at before.net at).arc push was);
       };
     }
 
@@ -261,10 +261,10 @@ sends-both before between after old mid new label router t x y first second =
     }
 
 -- An arc that is blocked stays blocked, whatever is sent.
-pub blocked-later : (before after : ResidualView) (old new label : List ℕ) (least router t x arc : ℕ) →
-    Sends before after old new label router t x → IsPhase after least t label new → arc < arc_count before.net →
-    IsBlocked before least t label old arc → IsBlocked after least t label new arc
-blocked-later before after old new label least router t x arc sent phase within was leads =
+pub blocked-later : (before after : ResidualView) (old new label : List ℕ) (threshold router t x arc : ℕ) →
+    Sends before after old new label router t x → IsPhase after threshold t label new → arc < arc_count before.net →
+    IsBlocked before threshold t label old arc → IsBlocked after threshold t label new arc
+blocked-later before after old new label threshold router t x arc sent phase within was leads =
     let net : after.net ≡ before.net = ap (λ (v : ResidualView). v.net) sent.same in
     let led : Rises before.net label arc = rw net at leads in
     elim (was led) [
@@ -295,13 +295,13 @@ pub record IsOver (before between after : ResidualView) (old new label : List �
   pub push : IsPush between after label arc amount
 
 -- What is done at a place whose arc leads on is that.
-pub is_over : (before between after : ResidualView) (old new label : List ℕ) (at least t amount next : ℕ)
+pub is_over : (before between after : ResidualView) (old new label : List ℕ) (at threshold t amount next : ℕ)
     (place : Place) → place ≡ place_at before.net at → place.arc < arc_count before.net →
     get_or label place.head 0 ≡ next → next ≡ get_or label (tail_of before.net (place_at before.net at).arc) 0 + 1 →
-    Sends before between old new label place.head t amount → IsPhase between least t label new →
+    Sends before between old new label place.head t amount → IsPhase between threshold t label new →
     after ≡ record between { flow = pushed between.flow place.arc amount } →
     IsOver before between after old new label (place_at before.net at).arc t amount
-is_over before between after old new label at least t amount next place is inside at_head at_tail sent phase pushes =
+is_over before between after old new label at threshold t amount next place is inside at_head at_tail sent phase pushes =
     let arc : ℕ = (place_at before.net at).arc in
     let is_arc : place.arc ≡ arc = ap (λ (p : Place). p.arc) is in
     let is_head : place.head ≡ head_of before.net arc = ap (λ (p : Place). p.head) is ∙ place_at-head before.net at in
@@ -328,17 +328,17 @@ over-sends before between after old new label arc t amount over =
     sends-over before between after old new label arc t amount over.sent over.push over.within
 
 -- An arc of which all was taken is closed.
-closes : (x y z : ℤ) (left amount least : ℕ) → pos left ≡ x → y ≡ x → z ≡ (y -ℤ pos amount) → amount ≡ left →
-    0 < least → z <ℤ pos least
-closes x y z left amount least first second third whole some = omega (arith, ints, first, second, third, whole, some)
+closes : (x y z : ℤ) (left amount threshold : ℕ) → pos left ≡ x → y ≡ x → z ≡ (y -ℤ pos amount) → amount ≡ left →
+    0 < threshold → z <ℤ pos threshold
+closes x y z left amount threshold first second third whole some = omega (arith, ints, first, second, third, whole, some)
 
 -- The arc is blocked then, if less than the limit was sent: it is closed, or its head is spent.
 pub over-blocked : (before between after : ResidualView) (old new label : List ℕ)
-    (arc least t left most limit amount : ℕ) → IsOver before between after old new label arc t amount → 0 < least →
+    (arc threshold t left most limit amount : ℕ) → IsOver before between after old new label arc t amount → 0 < threshold →
     pos left ≡ left_on before arc → most ≡ min left limit → amount ≤ most →
     (amount < most → (head_of before.net arc ≢ t) × IsSpent between.net new (head_of before.net arc)) →
-    amount < limit → IsBlocked after least t label new arc
-over-blocked before between after old new label arc least t left most limit amount over some is most_is below spent
+    amount < limit → IsBlocked after threshold t label new arc
+over-blocked before between after old new label arc threshold t left most limit amount over some is most_is below spent
     short leads =
     let same : after.net ≡ between.net = push-net between after label arc amount over.push in
     let led : Rises before.net label arc = rw over.same at over.push.leads in
@@ -347,21 +347,21 @@ over-blocked before between after old new label arc least t left most limit amou
       | inl less ↦ inr (rw (same, over.same) (rw over.same at (spent less)))
       | inr all ↦
           let whole : amount ≡ left = omega (arith, most_is, below, all, short) in
-          inl (closes (left_on before arc) (left_on between arc) (left_on after arc) left amount least is spared
+          inl (closes (left_on before arc) (left_on between arc) (left_on after arc) left amount threshold is spared
           (push-own between after label arc amount over.push) whole some)
     ]
 
 -- The arcs that a router has passed stay blocked, whatever is sent.
-pub passed-later : (before after : ResidualView) (old new label : List ℕ) (least router t x from to : ℕ) →
-    Sends before after old new label router t x → IsPhase after least t label new →
+pub passed-later : (before after : ResidualView) (old new label : List ℕ) (threshold router t x from to : ℕ) →
+    Sends before after old new label router t x → IsPhase after threshold t label new →
     IsInLimits before.net → router < before.net.routers →
     begin_of before.net router ≤ from → to ≤ begin_of before.net (router + 1) →
-    ((at : ℕ) → from ≤ at → at < to → IsBlocked before least t label old (place_at before.net at).arc) →
-    (at : ℕ) → from ≤ at → at < to → IsBlocked after least t label new (place_at after.net at).arc
-passed-later before after old new label least router t x from to sent phase limits small start end passed at low high =
+    ((at : ℕ) → from ≤ at → at < to → IsBlocked before threshold t label old (place_at before.net at).arc) →
+    (at : ℕ) → from ≤ at → at < to → IsBlocked after threshold t label new (place_at after.net at).arc
+passed-later before after old new label threshold router t x from to sent phase limits small start end passed at low high =
     let net : after.net ≡ before.net = ap (λ (v : ResidualView). v.net) sent.same in
     let leaves : IsPlaceOf before.net router (place_at before.net at) =
     between-is before.net limits router at small (omega arith) (omega arith) in
-    subst (λ (n : Net). IsBlocked after least t label new (place_at n at).arc) (sym net)
-    (blocked-later before after old new label least router t x (place_at before.net at).arc sent phase leaves.arc
+    subst (λ (n : Net). IsBlocked after threshold t label new (place_at n at).arc) (sym net)
+    (blocked-later before after old new label threshold router t x (place_at before.net at).arc sent phase leaves.arc
     (passed at low high))

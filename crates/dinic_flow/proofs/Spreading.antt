@@ -9,9 +9,9 @@ use Rattle.dinic_flow.specs.Balls.{LeadsOn, IsLabelled, Grows, IsClosedAt, IsBal
 use Rattle.dinic_flow.proofs.Counting.{places-few}
 
 -- A queue has at most as many routers as there are.
-pub known-most : (view : ResidualView) (least : ℕ) (back : Bool) (label queue : List ℕ) (known : ℕ) →
-    IsLabelled view least back label queue known → known ≤ view.net.routers
-known-most view least back label queue known old =
+pub known-most : (view : ResidualView) (threshold : ℕ) (back : Bool) (label queue : List ℕ) (known : ℕ) →
+    IsLabelled view threshold back label queue known → known ≤ view.net.routers
+known-most view threshold back label queue known old =
     let most : known + 0 ≤ view.net.routers = places-few view.net.routers queue known [] 0 old.differ
     (λ i j below short. absurd (omega (arith, short)))
     (λ i j below short. absurd (omega (arith, short)))
@@ -19,38 +19,38 @@ known-most view least back label queue known old =
     omega (arith, most)
 
 -- What is closed stays so while labels are kept.
-pub closed-kept : (view : ResidualView) (least : ℕ) (back : Bool) (label wider : List ℕ) (u : ℕ) →
+pub closed-kept : (view : ResidualView) (threshold : ℕ) (back : Bool) (label wider : List ℕ) (u : ℕ) →
     ((r : ℕ) → 0 < get_or label r 0 → get_or wider r 0 ≡ get_or label r 0) → 0 < get_or label u 0 →
-    IsClosedAt view least back label u → IsClosedAt view least back wider u
-closed-kept view least back label wider u kept some closed v leads =
+    IsClosedAt view threshold back label u → IsClosedAt view threshold back wider u
+closed-kept view threshold back label wider u kept some closed v leads =
     let there = closed v leads in
     (rw (kept v there.0) there.0, rw (kept v there.0, kept u some) there.1)
 
 -- So do the first places of a queue.
-pub all_closed-kept : (view : ResidualView) (least : ℕ) (back : Bool) (label queue : List ℕ) (known next : ℕ)
-    (wider longer : List ℕ) (count done : ℕ) → IsLabelled view least back label queue known →
+pub all_closed-kept : (view : ResidualView) (threshold : ℕ) (back : Bool) (label queue : List ℕ) (known next : ℕ)
+    (wider longer : List ℕ) (count done : ℕ) → IsLabelled view threshold back label queue known →
     Grows label queue known next wider longer count → done ≤ known →
-    ((k : ℕ) → k < done → IsClosedAt view least back label (get_or queue k 0)) →
-    (k : ℕ) → k < done → IsClosedAt view least back wider (get_or longer k 0)
-all_closed-kept view least back label queue known next wider longer count done old grows within closed k short =
+    ((k : ℕ) → k < done → IsClosedAt view threshold back label (get_or queue k 0)) →
+    (k : ℕ) → k < done → IsClosedAt view threshold back wider (get_or longer k 0)
+all_closed-kept view threshold back label queue known next wider longer count done old grows within closed k short =
     let before : k < known = omega (arith, short, within) in
     rw (grows.same k before)
-    (closed-kept view least back label wider (get_or queue k 0) grows.kept (old.positive k before) (closed k short))
+    (closed-kept view threshold back label wider (get_or queue k 0) grows.kept (old.positive k before) (closed k short))
 
 -- And one place more.
-pub all_closed-more : (view : ResidualView) (least : ℕ) (back : Bool) (label queue : List ℕ) (done : ℕ) →
-    ((k : ℕ) → k < done → IsClosedAt view least back label (get_or queue k 0)) →
-    IsClosedAt view least back label (get_or queue done 0) →
-    (k : ℕ) → k < done + 1 → IsClosedAt view least back label (get_or queue k 0)
-all_closed-more view least back label queue done before here k short = elim (cases_lt k done) [
+pub all_closed-more : (view : ResidualView) (threshold : ℕ) (back : Bool) (label queue : List ℕ) (done : ℕ) →
+    ((k : ℕ) → k < done → IsClosedAt view threshold back label (get_or queue k 0)) →
+    IsClosedAt view threshold back label (get_or queue done 0) →
+    (k : ℕ) → k < done + 1 → IsClosedAt view threshold back label (get_or queue k 0)
+all_closed-more view threshold back label queue done before here k short = elim (cases_lt k done) [
   | inl early ↦ before k early
   | inr late ↦ let last : k ≡ done = omega arith in rw last here
 ]
 
-module _ (view : ResidualView) (least : ℕ) (back : Bool) (label queue : List ℕ) (front known radius : ℕ)
-    (ball : IsBall view least back label queue front known known radius) (wider longer : List ℕ) (count : ℕ)
+module _ (view : ResidualView) (threshold : ℕ) (back : Bool) (label queue : List ℕ) (front known radius : ℕ)
+    (ball : IsBall view threshold back label queue front known known radius) (wider longer : List ℕ) (count : ℕ)
     (grows : Grows label queue known (radius + 2) wider longer count)
-    (labelled : IsLabelled view least back wider longer count) where
+    (labelled : IsLabelled view threshold back wider longer count) where
   -- The labels of the ball's routers stay.
   level-kept : (k : ℕ) → k < known → get_or wider (get_or longer k 0) 0 ≡ get_or label (get_or queue k 0) 0
   level-kept k short = rw (grows.same k short) (grows.kept (get_or queue k 0) (ball.labelled.positive k short))
@@ -78,14 +78,14 @@ module _ (view : ResidualView) (least : ℕ) (back : Bool) (label queue : List �
 
   -- Where a router of the front reaches routers with labels alone, it is closed.
   pub closed-here : (k : ℕ) → front ≤ k → k < known →
-      ((v : ℕ) → LeadsOn view least back (get_or longer k 0) v → 0 < get_or wider v 0) →
-      IsClosedAt view least back wider (get_or longer k 0)
+      ((v : ℕ) → LeadsOn view threshold back (get_or longer k 0) v → 0 < get_or wider v 0) →
+      IsClosedAt view threshold back wider (get_or longer k 0)
   closed-here k late short reached v leads =
       let some = reached v leads in
       (some, omega (arith, label-most v some, rim-kept k late short))
 
   -- A ball that is stopped while it grows is one with a part of what lies beyond it.
-  pub stopped-ball : IsBall view least back wider longer front known count radius
+  pub stopped-ball : IsBall view threshold back wider longer front known count radius
   stopped-ball = record {
     labelled = labelled;
     ordered = ball.ordered;
@@ -94,14 +94,14 @@ module _ (view : ResidualView) (least : ℕ) (back : Bool) (label queue : List �
     inside = inside-kept;
     rim = rim-kept;
     beyond = grows.fresh;
-    closed = all_closed-kept view least back label queue known (radius + 2) wider longer count front ball.labelled
+    closed = all_closed-kept view threshold back label queue known (radius + 2) wider longer count front ball.labelled
         grows ball.ordered ball.closed;
   }
 
   -- A ball whose front was followed whole is a larger one.
   pub grown-ball : front < known →
-      ((k : ℕ) → k < known → IsClosedAt view least back wider (get_or longer k 0)) →
-      IsBall view least back wider longer known count count (radius + 1)
+      ((k : ℕ) → k < known → IsClosedAt view threshold back wider (get_or longer k 0)) →
+      IsBall view threshold back wider longer known count count (radius + 1)
   grown-ball some closed = record {
     labelled = labelled;
     ordered = grows.more;

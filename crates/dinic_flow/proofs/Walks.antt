@@ -11,35 +11,35 @@ use Rattle.dinic_flow.specs.Levels.{IsOpen, OpenArc, Walk}
 use Rattle.dinic_flow.specs.Balls.{LeadsOn, WalksOn}
 
 -- Two walks, one behind the other, are one.
-pub walk-append : (view : ResidualView) (least : ℕ) (first second : ℕ) (u v w : ℕ) →
-    Walk view least first u v → Walk view least second v w → Walk view least (first + second) u w
-walk-append view least zero second u v w same rest =
+pub walk-append : (view : ResidualView) (threshold : ℕ) (first second : ℕ) (u v w : ℕ) →
+    Walk view threshold first u v → Walk view threshold second v w → Walk view threshold (first + second) u w
+walk-append view threshold zero second u v w same rest =
     let none : second ≡ 0 + second = omega arith in
-    subst (λ (n : ℕ). Walk view least n u w) none (subst (λ (r : ℕ). Walk view least second r w) (sym same) rest)
-walk-append view least (suc first) second u v w (next, arc, walk) rest =
-    let joined : Walk view least (suc (first + second)) u w =
-    (next, arc, walk-append view least first second next v w walk rest) in
+    subst (λ (n : ℕ). Walk view threshold n u w) none (subst (λ (r : ℕ). Walk view threshold second r w) (sym same) rest)
+walk-append view threshold (suc first) second u v w (next, arc, walk) rest =
+    let joined : Walk view threshold (suc (first + second)) u w =
+    (next, arc, walk-append view threshold first second next v w walk rest) in
     let more : suc (first + second) ≡ suc first + second = omega arith in
-    subst (λ (n : ℕ). Walk view least n u w) more joined
+    subst (λ (n : ℕ). Walk view threshold n u w) more joined
 
 -- An open arc is a walk.
-pub walk-arc : (view : ResidualView) (least : ℕ) (u v : ℕ) → OpenArc view least u v → Walk view least 1 u v
-walk-arc view least u v arc = (v, arc, refl)
+pub walk-arc : (view : ResidualView) (threshold : ℕ) (u v : ℕ) → OpenArc view threshold u v → Walk view threshold 1 u v
+walk-arc view threshold u v arc = (v, arc, refl)
 
 -- A walk goes on over one arc more.
-pub walks-more : (view : ResidualView) (least : ℕ) (back : Bool) (arcs u v w : ℕ) →
-    WalksOn view least back arcs u v → LeadsOn view least back v w → WalksOn view least back (arcs + 1) u w
-walks-more view least false arcs u v w walk arc =
-    walk-append view least arcs 1 u v w walk (walk-arc view least v w arc)
-walks-more view least true arcs u v w walk arc =
-    let joined : Walk view least (suc arcs) w u = (v, arc, walk) in
+pub walks-more : (view : ResidualView) (threshold : ℕ) (back : Bool) (arcs u v w : ℕ) →
+    WalksOn view threshold back arcs u v → LeadsOn view threshold back v w → WalksOn view threshold back (arcs + 1) u w
+walks-more view threshold false arcs u v w walk arc =
+    walk-append view threshold arcs 1 u v w walk (walk-arc view threshold v w arc)
+walks-more view threshold true arcs u v w walk arc =
+    let joined : Walk view threshold (suc arcs) w u = (v, arc, walk) in
     let more : suc arcs ≡ arcs + 1 = omega arith in
-    subst (λ (n : ℕ). Walk view least n w u) more joined
+    subst (λ (n : ℕ). Walk view threshold n w u) more joined
 
 -- A walk of no arc stays where it is.
-pub walks-none : (view : ResidualView) (least : ℕ) (back : Bool) (u v : ℕ) → WalksOn view least back 0 u v → u ≡ v
-walks-none view least false u v walk = walk
-walks-none view least true u v walk = sym walk
+pub walks-none : (view : ResidualView) (threshold : ℕ) (back : Bool) (u v : ℕ) → WalksOn view threshold back 0 u v → u ≡ v
+walks-none view threshold false u v walk = walk
+walks-none view threshold true u v walk = sym walk
 
 -- An arc's twin is an arc of the same link the other way, whose twin is the arc.
 pub record IsTwin (net : Net) (arc back : ℕ) : Type 0 where
@@ -86,28 +86,28 @@ is-twin net arc within = elim (cases_eq (arc % 2) 0) [
 ]
 
 -- An arc leads on from its tail to its head, if it is open the way that is followed.
-pub leads-along : (view : ResidualView) (least : ℕ) (back : Bool) (arc : ℕ) → arc < arc_count view.net →
-    IsOpen view least (turned back arc) → LeadsOn view least back (tail_of view.net arc) (head_of view.net arc)
-leads-along view least false arc within is_open =
+pub leads-along : (view : ResidualView) (threshold : ℕ) (back : Bool) (arc : ℕ) → arc < arc_count view.net →
+    IsOpen view threshold (turned back arc) → LeadsOn view threshold back (tail_of view.net arc) (head_of view.net arc)
+leads-along view threshold false arc within is_open =
     record { arc = arc; within = within; tail = refl; head = refl; is_open = is_open }
-leads-along view least true arc within is_open =
+leads-along view threshold true arc within is_open =
     let other : IsTwin view.net arc (twin arc) = is-twin view.net arc within in
     record { arc = twin arc; within = other.within; tail = other.tail; head = other.head; is_open = is_open }
 
 -- An arc from u to v that is open the way that is followed.
-pub record ArcAlong (view : ResidualView) (least : ℕ) (back : Bool) (u v : ℕ) : Type 0 where
+pub record ArcAlong (view : ResidualView) (threshold : ℕ) (back : Bool) (u v : ℕ) : Type 0 where
   pub arc : ℕ
   pub within : arc < arc_count view.net
   pub tail : tail_of view.net arc ≡ u
   pub head : head_of view.net arc ≡ v
-  pub is_open : IsOpen view least (turned back arc)
+  pub is_open : IsOpen view threshold (turned back arc)
 
 -- Where an open arc leads on from u to v, there is such an arc from u to v.
-pub arc-along : (view : ResidualView) (least : ℕ) (back : Bool) (u v : ℕ) → LeadsOn view least back u v →
-    ArcAlong view least back u v
-arc-along view least false u v arc =
+pub arc-along : (view : ResidualView) (threshold : ℕ) (back : Bool) (u v : ℕ) → LeadsOn view threshold back u v →
+    ArcAlong view threshold back u v
+arc-along view threshold false u v arc =
     record { arc = arc.arc; within = arc.within; tail = arc.tail; head = arc.head; is_open = arc.is_open }
-arc-along view least true u v arc =
+arc-along view threshold true u v arc =
     let other : IsTwin view.net arc.arc (twin arc.arc) = is-twin view.net arc.arc arc.within in
     record {
       arc = twin arc.arc;
@@ -118,9 +118,9 @@ arc-along view least true u v arc =
     }
 
 -- Where at least so much is left, an arc is open.
-pub open-left : (least x : ℕ) (z : ℤ) → pos x ≡ z → least ≤ x → pos least ≤ℤ z
-open-left least x z is enough = omega (arith, ints, is, enough)
+pub open-left : (threshold x : ℕ) (z : ℤ) → pos x ≡ z → threshold ≤ x → pos threshold ≤ℤ z
+open-left threshold x z is enough = omega (arith, ints, is, enough)
 
 -- Where an arc is open, at least so much is left.
-pub left-open : (least x : ℕ) (z : ℤ) → pos x ≡ z → pos least ≤ℤ z → least ≤ x
-left-open least x z is is_open = omega (arith, ints, is, is_open)
+pub left-open : (threshold x : ℕ) (z : ℤ) → pos x ≡ z → pos threshold ≤ℤ z → threshold ≤ x
+left-open threshold x z is is_open = omega (arith, ints, is, is_open)

@@ -8,17 +8,17 @@ use Rattle.dinic_flow.specs.Levels.{OpenArc, Walk}
 
 -- An open arc leads from u to v, or from v to u where arcs are followed back.
 abbrev pub LeadsOn : ResidualView → ℕ → Bool → ℕ → ℕ → Type 0
-LeadsOn view least false u v = OpenArc view least u v
-LeadsOn view least true u v = OpenArc view least v u
+LeadsOn view threshold false u v = OpenArc view threshold u v
+LeadsOn view threshold true u v = OpenArc view threshold v u
 
 -- So many open arcs lead from u to v, or from v to u where arcs are followed back.
 abbrev pub WalksOn : ResidualView → ℕ → Bool → ℕ → ℕ → ℕ → Type 0
-WalksOn view least false arcs u v = Walk view least arcs u v
-WalksOn view least true arcs u v = Walk view least arcs v u
+WalksOn view threshold false arcs u v = Walk view threshold arcs u v
+WalksOn view threshold true arcs u v = Walk view threshold arcs v u
 
 -- Just the first routers of the queue have labels, none of them stands there twice, and the label of each
 -- is one more than the number of arcs of some walk from the queue's first router, or to it.
-pub record IsLabelled (view : ResidualView) (least : ℕ) (back : Bool) (label queue : List ℕ) (known : ℕ)
+pub record IsLabelled (view : ResidualView) (threshold : ℕ) (back : Bool) (label queue : List ℕ) (known : ℕ)
     : Type 0 where
   pub some : 0 < known
   pub centre : slice_index label (slice_index queue 0) ≡ 1
@@ -28,7 +28,7 @@ pub record IsLabelled (view : ResidualView) (least : ℕ) (back : Bool) (label q
   pub differ : (i j : ℕ) → i < j → j < known → slice_index queue i ≢ slice_index queue j
   pub walks :
       (k : ℕ) → k < known →
-      WalksOn view least back (slice_index label (slice_index queue k) - 1) (slice_index queue 0) (slice_index queue k)
+      WalksOn view threshold back (slice_index label (slice_index queue k) - 1) (slice_index queue 0) (slice_index queue k)
 
 -- The routers that had labels are as they were, and those that are new have this one.
 pub record Grows (label queue : List ℕ) (known next : ℕ) (wider longer : List ℕ) (count : ℕ) : Type 0 where
@@ -42,37 +42,37 @@ abbrev pub AreApart : List ℕ → List ℕ → Type 0
 AreApart label marks = (r : ℕ) → 0 < slice_index label r → slice_index marks r ≡ 0
 
 -- An open arc leads on from router u to a router that has a mark.
-pub record Crosses (view : ResidualView) (least : ℕ) (back : Bool) (marks : List ℕ) (u : ℕ) : Type 0 where
+pub record Crosses (view : ResidualView) (threshold : ℕ) (back : Bool) (marks : List ℕ) (u : ℕ) : Type 0 where
   pub to : ℕ
-  pub leads : LeadsOn view least back u to
+  pub leads : LeadsOn view threshold back u to
   pub marked : 0 < slice_index marks to
 
 -- One leads on from a router at just this radius.
-pub record Meets (view : ResidualView) (least : ℕ) (back : Bool) (label marks : List ℕ) (radius : ℕ)
+pub record Meets (view : ResidualView) (threshold : ℕ) (back : Bool) (label marks : List ℕ) (radius : ℕ)
     : Type 0 where
   pub from : ℕ
   pub level : slice_index label from ≡ radius + 1
-  pub crosses : Crosses view least back marks from
+  pub crosses : Crosses view threshold back marks from
 
 -- Each router to which an open arc leads on from router u has a label, at most one larger.
 abbrev pub IsClosedAt : ResidualView → ℕ → Bool → List ℕ → ℕ → Type 0
-IsClosedAt view least back label u =
-    (v : ℕ) → LeadsOn view least back u v →
+IsClosedAt view threshold back label u =
+    (v : ℕ) → LeadsOn view threshold back u v →
     (0 < slice_index label v) × (slice_index label v ≤ slice_index label u + 1)
 
 -- A ball of a radius, with a part of what lies one arc beyond it. It has the queue's first `known` routers.
 -- Those from place `front` up to place `stop` are at the radius, those behind them are beyond it, and the
 -- arcs of those before place `front` were all followed.
-pub record IsBall (view : ResidualView) (least : ℕ) (back : Bool) (label queue : List ℕ)
+pub record IsBall (view : ResidualView) (threshold : ℕ) (back : Bool) (label queue : List ℕ)
     (front stop known radius : ℕ) : Type 0 where
-  pub labelled : IsLabelled view least back label queue known
+  pub labelled : IsLabelled view threshold back label queue known
   pub ordered : front ≤ stop
   pub within : stop ≤ known
   pub deep : radius ≤ front
   pub inside : (k : ℕ) → k < stop → slice_index label (slice_index queue k) ≤ radius + 1
   pub rim : (k : ℕ) → front ≤ k → k < stop → slice_index label (slice_index queue k) ≡ radius + 1
   pub beyond : (k : ℕ) → stop ≤ k → k < known → slice_index label (slice_index queue k) ≡ radius + 2
-  pub closed : (k : ℕ) → k < front → IsClosedAt view least back label (slice_index queue k)
+  pub closed : (k : ℕ) → k < front → IsClosedAt view threshold back label (slice_index queue k)
 
 -- The number of arcs that leave the first routers of a queue.
 abbrev pub work_of : Net → List ℕ → ℕ → ℕ

@@ -18,25 +18,25 @@ IsSpent net cursor r = slice_index cursor r ≡ begin_of net (r + 1)
 
 -- An arc that leads on is closed, or leads to a spent router other than t.
 abbrev pub IsBlocked : ResidualView → ℕ → ℕ → List ℕ → List ℕ → ℕ → Type 0
-IsBlocked view least t label cursor arc =
+IsBlocked view threshold t label cursor arc =
     Rises view.net label arc →
-    (left_on view arc <ℤ pos least) ⊎ ((head_of view.net arc ≢ t) × IsSpent view.net cursor (head_of view.net arc))
+    (left_on view arc <ℤ pos threshold) ⊎ ((head_of view.net arc ≢ t) × IsSpent view.net cursor (head_of view.net arc))
 
 -- Each router's cursor is among its places, that of t at the first one, and all before a cursor are blocked.
-pub record HasCome (view : ResidualView) (least t : ℕ) (label cursor : List ℕ) : Type 0 where
+pub record HasCome (view : ResidualView) (threshold t : ℕ) (label cursor : List ℕ) : Type 0 where
   pub size : length cursor ≡ view.net.routers
   pub fresh : slice_index cursor t ≡ begin_of view.net t
   pub above : (r : ℕ) → r < view.net.routers → begin_of view.net r ≤ slice_index cursor r
   pub below : (r : ℕ) → r < view.net.routers → slice_index cursor r ≤ begin_of view.net (r + 1)
   pub blocked :
       (r at : ℕ) → r < view.net.routers → begin_of view.net r ≤ at → at < slice_index cursor r →
-      IsBlocked view least t label cursor (place_at view.net at).arc
+      IsBlocked view threshold t label cursor (place_at view.net at).arc
 
 -- A state of a phase: a flow within the capacities, levels that rise to t, and cursors.
-pub record IsPhase (view : ResidualView) (least t : ℕ) (label cursor : List ℕ) : Type 0 where
+pub record IsPhase (view : ResidualView) (threshold t : ℕ) (label cursor : List ℕ) : Type 0 where
   pub sound : IsSound view
-  pub levelled : IsLevelled view least t label
-  pub come : HasCome view least t label cursor
+  pub levelled : IsLevelled view threshold t label
+  pub come : HasCome view threshold t label cursor
 
 -- What a router sends on to t, from one state of a phase to a later one: no arc that leads on gains,
 -- those that leave lower levels than the router's are as they were, and so are the cursors of all

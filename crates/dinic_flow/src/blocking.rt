@@ -32,19 +32,19 @@ fn send_on<L: Ledger>(
     router: u32,
     t: u32,
     limit: u64,
-    least: u64,
+    threshold: u64,
     label: &[u32],
     cursor: &mut [u32],
     steps: &mut Steps<L>,
 ) -> u64
-    requires phase { IsPhase graph.old least t label.now cursor.old }
+    requires phase { IsPhase graph.old threshold t label.now cursor.old }
     requires router { router < graph.old.net.routers }
     requires labelled { 0 < slice_index label.now router }
     requires t { t < graph.old.net.routers }
-    requires least { 0 < least }
+    requires threshold { 0 < threshold }
     requires limit { 0 < limit }
     ensures most { result ≤ limit }
-    ensures phase { IsPhase graph.new least t label.now cursor.new }
+    ensures phase { IsPhase graph.new threshold t label.now cursor.new }
     ensures sends { Sends graph.old graph.new cursor.old cursor.new label.now router t result }
     ensures spent { result < limit → (router ≢ t) × IsSpent graph.new.net cursor.new router }
     ensures cost { Costs (slice_index label.now t - slice_index label.now router)
@@ -53,7 +53,7 @@ fn send_on<L: Ledger>(
     if router == t {
         limit
     } else {
-        send(graph, router, t, limit, least, label, cursor, steps)
+        send(graph, router, t, limit, threshold, label, cursor, steps)
     }
 }
 
@@ -67,28 +67,28 @@ fn send_over<L: Ledger>(
     next: u32,
     t: u32,
     limit: u64,
-    least: u64,
+    threshold: u64,
     label: &[u32],
     cursor: &mut [u32],
     steps: &mut Steps<L>,
 ) -> u64
-    requires phase { IsPhase graph.old least t label.now cursor.old }
+    requires phase { IsPhase graph.old threshold t label.now cursor.old }
     requires at { at < arc_count graph.old.net }
     requires next { next
         ≡ slice_index label.now (tail_of graph.old.net (place_at graph.old.net at).arc) + 1 }
     requires labelled { 1 < next }
     requires low { next ≤ slice_index label.now t }
     requires t { t < graph.old.net.routers }
-    requires least { 0 < least }
+    requires threshold { 0 < threshold }
     requires limit { 0 < limit }
     ensures most { result ≤ limit }
-    ensures phase { IsPhase graph.new least t label.now cursor.new }
+    ensures phase { IsPhase graph.new threshold t label.now cursor.new }
     ensures sends { Sends graph.old graph.new cursor.old cursor.new label.now
         (tail_of graph.old.net (place_at graph.old.net at).arc) t result }
     ensures own { let tail = tail_of graph.old.net (place_at graph.old.net at).arc
         in slice_index cursor.new tail ≡ slice_index cursor.old tail }
     ensures blocked { result < limit →
-        IsBlocked graph.new least t label.now cursor.new (place_at graph.old.net at).arc }
+        IsBlocked graph.new threshold t label.now cursor.new (place_at graph.old.net at).arc }
     ensures cost { Costs (slice_index label.now t - next)
         cursor.old cursor.new (steps.old + 2) steps.new }
 {
@@ -100,11 +100,11 @@ fn send_over<L: Ledger>(
         return 0;
     }
     let left = graph.left(place.arc, steps);
-    if left < least {
+    if left < threshold {
         return 0;
     }
     let most = left.min(limit);
-    let sent = send_on(graph, place.head, t, most, least, label, cursor, steps);
+    let sent = send_on(graph, place.head, t, most, threshold, label, cursor, steps);
     push_some(graph, place.arc, sent, steps);
     sent
 }
@@ -117,20 +117,20 @@ pub fn send<L: Ledger>(
     router: u32,
     t: u32,
     limit: u64,
-    least: u64,
+    threshold: u64,
     label: &[u32],
     cursor: &mut [u32],
     steps: &mut Steps<L>,
 ) -> u64
-    requires phase { IsPhase graph.old least t label.now cursor.old }
+    requires phase { IsPhase graph.old threshold t label.now cursor.old }
     requires router { router < graph.old.net.routers }
     requires labelled { 0 < slice_index label.now router }
     requires apart { router ≢ t }
     requires t { t < graph.old.net.routers }
-    requires least { 0 < least }
+    requires threshold { 0 < threshold }
     requires limit { 0 < limit }
     ensures most { result ≤ limit }
-    ensures phase { IsPhase graph.new least t label.now cursor.new }
+    ensures phase { IsPhase graph.new threshold t label.now cursor.new }
     ensures sends { Sends graph.old graph.new cursor.old cursor.new label.now router t result }
     ensures spent { result < limit → IsSpent graph.new.net cursor.new router }
     ensures cost { Costs (slice_index label.now t - slice_index label.now router)
@@ -146,7 +146,7 @@ pub fn send<L: Ledger>(
             next,
             t,
             limit - sent,
-            least,
+            threshold,
             label,
             cursor,
             steps,

@@ -29,13 +29,13 @@ fn hold_only(side: &mut Side, routers: &[u32])
     }
 }
 
-/// A flow from `s` to `t` over the arcs that have at least `least` left, where there is none yet.
-/// Where `least` is 1 or 0, it is left to the flow that follows, and stays at none.
+/// A flow from `s` to `t` over the arcs that have at least `threshold` left, where there is none yet.
+/// Where `threshold` is 1 or 0, it is left to the flow that follows, and stays at none.
 fn coarse_flow<L: Ledger>(
     graph: &mut Residual,
     s: u32,
     t: u32,
-    least: u64,
+    threshold: u64,
     label: &mut [u32],
     cursor: &mut [u32],
     ahead: &mut [u32],
@@ -57,8 +57,10 @@ fn coarse_flow<L: Ledger>(
     ensures steps { steps.new ≤ steps.old
         + 3 * length graph.old.net.links * graph.old.net.routers * graph.old.net.routers }
 {
-    if least > 1 {
-        max_flow(graph, s, t, least, 0, label, cursor, ahead, behind, steps)
+    if threshold > 1 {
+        max_flow(
+            graph, s, t, threshold, 0, label, cursor, ahead, behind, steps,
+        )
     } else {
         Flow {
             value: 0,
@@ -69,13 +71,13 @@ fn coarse_flow<L: Ledger>(
 }
 
 /// A least cut of `s` from `t` in a graph without a flow, whose least side goes into `side`. Flow
-/// is first sent over the arcs that have at least `least` left, and then over all that have any.
+/// is first sent over the arcs that have at least `threshold` left, and then over all that have any.
 /// The four lists have room for all routers; what they hold before and afterwards means nothing.
 pub fn least_side<L: Ledger>(
     graph: &mut Residual,
     s: u32,
     t: u32,
-    least: u64,
+    threshold: u64,
     label: &mut [u32],
     cursor: &mut [u32],
     ahead: &mut [u32],
@@ -106,7 +108,7 @@ pub fn least_side<L: Ledger>(
     let cursor = &mut cursor[..routers];
     let ahead = &mut ahead[..routers];
     let behind = &mut behind[..routers];
-    let coarse = coarse_flow(graph, s, t, least, label, cursor, ahead, behind, steps);
+    let coarse = coarse_flow(graph, s, t, threshold, label, cursor, ahead, behind, steps);
     let fine = max_flow(
         graph,
         s,

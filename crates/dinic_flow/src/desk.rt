@@ -1,6 +1,7 @@
 //! Least cuts, in room that is taken once.
 ghost use Rattle.std.specs.Prelude.{◌≡◌, ◌≢◌, ◌↔◌, ℕ, ◌+◌, ◌*◌, ◌<◌, ◌≤◌};
 ghost use Rattle.std.specs.Prelude.{[], IfOk, IsTrue, length, pos, replicate, slice_index_or};
+ghost use Rattle.cut_model.specs.declared.network.TheConstants.{MOST_ROUTERS, MOST_LINKS};
 ghost use Rattle.cut_model.specs.Cuts.{IsLeastSide, set_of};
 ghost use Rattle.cut_model.specs.Flow.{IsFlow};
 ghost use Rattle.dinic_flow.specs.Room.{Fits};
@@ -20,6 +21,9 @@ const COARSE_CUTS: u32 = 64;
 
 /// Room for least cuts in networks up to a number of routers and of links, with the network that
 /// was cut last and the flow that shows its cut to be least. Contracts see a `DeskView`.
+///
+/// The examples at its calls are of the network `net` of three routers with the links
+/// `{ a: 0, b: 1, cap: 2 }` and `{ a: 1, b: 2, cap: 3 }`.
 #[derive(Drop)]
 pub struct FlowDesk {
     routers: u32,
@@ -29,7 +33,8 @@ pub struct FlowDesk {
     cursor: Vec<u32>,
     ahead: Vec<u32>,
     behind: Vec<u32>,
-    /// How many cuts from here on begin with a coarse flow. It changes no answer.
+    /// How many cuts from here on begin with a coarse flow. The value and the least side of a cut are
+    /// the same with it and without it; the flow that the desk holds afterwards may be another.
     coarse_cuts: u32,
 }
 
@@ -51,12 +56,16 @@ impl Model for FlowDesk {
 }
 
 impl FlowDesk {
-    /// Room for networks of so many routers and links, at most 1,024 and 8,192. All memory that a
-    /// desk needs is taken here. It holds a network of one router and no link.
+    /// Room for networks of so many routers and links, at most [`MOST_ROUTERS`](cut_model::MOST_ROUTERS)
+    /// and [`MOST_LINKS`](cut_model::MOST_LINKS). No later call fails for want of memory. The desk
+    /// holds a network of one router and no link. `FlowDesk::with_room(alloc, 3, 2)?` has room for `net`.
+    ///
+    /// # Errors
+    /// [`NoMemory`], where there is too little memory for the room.
     pub fn with_room(alloc: Global, routers: u32, links: u32) -> Result<FlowDesk, NoMemory>
         requires some { 0 < routers }
-        requires few_routers { routers ≤ 1024 }
-        requires few_links { links ≤ 8192 }
+        requires few_routers { routers ≤ MOST_ROUTERS }
+        requires few_links { links ≤ MOST_LINKS }
         ensures room { IfOk result (λ d. d.room ≡ record { routers = routers; links = links }) }
         ensures net { IfOk result (λ d. d.net ≡ record { routers = 1; links = [] }) }
         ensures flow { IfOk result (λ d. d.flow ≡ []) }
@@ -74,14 +83,16 @@ impl FlowDesk {
         })
     }
 
-    /// Whether the desk has room for a network.
+    /// Whether the desk has room for a network. `net` fits a desk with room for three routers and two
+    /// links, and none with room for less.
     pub fn fits(&self, net: &Network) -> bool
         ensures { IsTrue result ↔ Fits self.now.room net.now }
     {
         net.routers() <= self.routers && net.links().len() <= self.links as usize
     }
 
-    /// Holds a network from now on, with no flow on any link, for cuts by `least_cut_of_held`.
+    /// Holds a network from now on, with no flow on any link, for cuts by `least_cut_of_held`. After
+    /// `desk.load(&net)`, `desk.flow_on(0)` is 0.
     pub fn load(&mut self, net: &Network)
         requires fits { Fits self.old.room net.now }
         ensures room { self.new.room ≡ self.old.room }
@@ -91,9 +102,9 @@ impl FlowDesk {
         self.graph.load(net);
     }
 
-    /// The least amount of the coarse flow with which a cut begins: about the share of an arc of
-    /// `s` in what can leave `s` or reach `t`. 1 where there is to be no coarse flow.
-    fn coarse_least(&self, s: u32, t: u32) -> u64
+    /// How much is left at least on the arcs of the coarse flow with which a cut begins: about the
+    /// share of an arc of `s` in what can leave `s` or reach `t`. 1 where there is to be no coarse flow.
+    fn coarse_threshold(&self, s: u32, t: u32) -> u64
         requires s { s < self.now.net.routers }
         requires t { t < self.now.net.routers }
     {
@@ -130,12 +141,12 @@ impl FlowDesk {
         ensures steps { steps.new ≤ steps.old
             + 6 * length self.old.net.links * self.old.net.routers * self.old.net.routers }
     {
-        let least = self.coarse_least(s, t);
+        let threshold = self.coarse_threshold(s, t);
         let cut = least_side(
             &mut self.graph,
             s,
             t,
-            least,
+            threshold,
             &mut self.label,
             &mut self.cursor,
             &mut self.ahead,
@@ -149,8 +160,13 @@ impl FlowDesk {
 
     /// The value of a least cut of `s` from `t`. Afterwards `side` holds the least side of `s`,
     /// which is a part of every other side of such a cut, whatever it held before, and the desk
-    /// holds a greatest flow from `s` to `t`. With n routers and m links it looks at what is left
-    /// on an arc, or pushes, at most 6mn² times (Dinic, 1970). It takes no memory.
+    /// holds a greatest flow from `s` to `t` (Dinic, 1970). It never fails for want of memory.
+    ///
+    /// `steps` counts each look at what is left on an arc, and each push: at most 6mn² of them with n
+    /// routers and m links. What else is done, as to load the network and to clear lists, isn't counted.
+    ///
+    /// `desk.least_cut(&net, 0, 2, &mut side, &mut steps)` is 2, `side` then holds router 0 alone, and
+    /// the flow on each of the two links is 2.
     pub fn least_cut<L: Ledger>(
         &mut self,
         net: &Network,
@@ -177,7 +193,8 @@ impl FlowDesk {
     }
 
     /// As `least_cut`, in the network that the desk holds from `load` or from the cut before. That
-    /// network isn't compared with another.
+    /// network isn't compared with another. After `desk.load(&net)`,
+    /// `desk.least_cut_of_held(1, 2, &mut side, &mut steps)` is 3, and `side` then holds routers 0 and 1.
     pub fn least_cut_of_held<L: Ledger>(
         &mut self,
         s: u32,
@@ -285,7 +302,8 @@ impl FlowDesk {
     }
 
     /// The flow of the last cut on a link, positive from its end a to its end b. Where the network
-    /// was loaded and not cut yet, it is 0.
+    /// was loaded and not cut yet, it is 0. After the least cut of router 2 from router 0 in `net`,
+    /// `desk.flow_on(0)` is -2.
     pub fn flow_on(&self, link: u32) -> i64
         requires { link < length self.now.net.links }
         ensures { result ≡ slice_index_or self.now.flow link (pos 0) }

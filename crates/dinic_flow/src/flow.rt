@@ -18,7 +18,7 @@ pub fn phase<L: Ledger>(
     graph: &mut Residual,
     s: u32,
     t: u32,
-    least: u64,
+    threshold: u64,
     value: u64,
     label: &[u32],
     cursor: &mut [u32],
@@ -26,21 +26,21 @@ pub fn phase<L: Ledger>(
 ) -> u64
     requires sound { IsSound graph.old }
     requires flow { IsFlow graph.old.net s t graph.old.flow value }
-    requires levelled { IsLevelled graph.old least t label.now }
+    requires levelled { IsLevelled graph.old threshold t label.now }
     requires start { slice_index label.now s ≡ 1 }
     requires s { s < graph.old.net.routers }
     requires t { t < graph.old.net.routers }
-    requires least { 0 < least }
+    requires threshold { 0 < threshold }
     requires cursor { length cursor.old ≡ graph.old.net.routers }
     ensures same { graph.new ≡ record graph.old { flow = graph.new.flow } }
     ensures sound { IsSound graph.new }
     ensures flow { IsFlow graph.new.net s t graph.new.flow result }
-    ensures farther { IsFartherThan graph.new least s t (slice_index label.now t - 1) }
+    ensures farther { IsFartherThan graph.new threshold s t (slice_index label.now t - 1) }
     ensures steps { steps.new
         ≤ steps.old + 2 * ((slice_index label.now t - 1) * (arc_count graph.old.net + 1)) }
 {
     graph.copy_begins(cursor);
-    value + send(graph, s, t, u64::MAX, least, label, cursor, steps)
+    value + send(graph, s, t, u64::MAX, threshold, label, cursor, steps)
 }
 
 /// A flow: its value, the phases that made it, and how many routers `s` still reaches.
@@ -59,7 +59,7 @@ pub fn max_flow<L: Ledger>(
     graph: &mut Residual,
     s: u32,
     t: u32,
-    least: u64,
+    threshold: u64,
     value: u64,
     label: &mut [u32],
     cursor: &mut [u32],
@@ -71,7 +71,7 @@ pub fn max_flow<L: Ledger>(
     requires flow { IsFlow graph.old.net s t graph.old.flow value }
     requires s { s < graph.old.net.routers }
     requires t { t < graph.old.net.routers }
-    requires least { 0 < least }
+    requires threshold { 0 < threshold }
     requires label { length label.old ≡ graph.old.net.routers }
     requires cursor { length cursor.old ≡ graph.old.net.routers }
     requires ahead { length ahead.old ≡ graph.old.net.routers }
@@ -81,16 +81,16 @@ pub fn max_flow<L: Ledger>(
     ensures flow { IsFlow graph.new.net s t graph.new.flow result.value }
     ensures phases { result.phases < graph.old.net.routers }
     ensures reached { result.reached ≤ graph.old.net.routers }
-    ensures apart { IsApart graph.new least s t (take result.reached ahead.new) }
+    ensures apart { IsApart graph.new threshold s t (take result.reached ahead.new) }
     ensures steps { steps.new ≤ steps.old
         + 3 * length graph.old.net.links * graph.old.net.routers * graph.old.net.routers }
 {
     let mut value = value;
     let mut phases = 0u32;
     loop {
-        match search(graph, s, t, least, label, cursor, ahead, behind, steps) {
+        match search(graph, s, t, threshold, label, cursor, ahead, behind, steps) {
             Found::Joined(_) => {
-                value = phase(graph, s, t, least, value, label, cursor, steps);
+                value = phase(graph, s, t, threshold, value, label, cursor, steps);
                 phases += 1;
             }
             Found::Apart(reached) => {

@@ -2,6 +2,7 @@
 ghost use Rattle.std.specs.Prelude.{◌≡◌, ◌≢◌, ◌↔◌, ℕ, ◌+◌, ◌<◌, ◌≤◌};
 ghost use Rattle.std.specs.Prelude.{All, IsTrue, IsFalse, length, replicate};
 ghost use Rattle.std.specs.Prelude.{slice_index, slice_set};
+ghost use Rattle.cut_model.specs.declared.network.TheConstants.{MOST_ROUTERS};
 ghost use Rattle.residual_graph.specs.Arcs.{arc_count, arcs_from, tail_of, turned};
 ghost use Rattle.residual_graph.specs.Places.{IsPlaceOf};
 ghost use Rattle.residual_graph.specs.View.{IsSound};
@@ -77,34 +78,34 @@ fn reach<L: Ledger>(
     place: Place,
     back: bool,
     next: u32,
-    least: u64,
+    threshold: u64,
     label: &mut [u32],
     other: &[u32],
     queue: &mut [u32],
     known: usize,
     steps: &mut Steps<L>,
 ) -> Round
-    requires limit { graph.now.net.routers ≤ 1024 }
+    requires limit { graph.now.net.routers ≤ MOST_ROUTERS }
     requires place { IsPlaceOf graph.now.net (tail_of graph.now.net place.arc) place }
     requires label { graph.now.net.routers ≤ length label.old }
     requires other { graph.now.net.routers ≤ length other.now }
     requires queue { graph.now.net.routers ≤ length queue.old }
-    requires labelled { IsLabelled graph.now least back label.old queue.old known }
+    requires labelled { IsLabelled graph.now threshold back label.old queue.old known }
     requires level { slice_index label.old (tail_of graph.now.net place.arc) + 1 ≡ next }
     requires tail { 0 < slice_index label.old (tail_of graph.now.net place.arc) }
     requires apart { AreApart label.old other.now }
-    ensures labelled { IsLabelled graph.now least back label.new queue.new result.known }
+    ensures labelled { IsLabelled graph.now threshold back label.new queue.new result.known }
     ensures grows { Grows label.old queue.old known next label.new queue.new result.known }
     ensures apart { AreApart label.new other.now }
-    ensures reached { IsFalse result.joined → IsOpen graph.now least (turned back place.arc) →
+    ensures reached { IsFalse result.joined → IsOpen graph.now threshold (turned back place.arc) →
         0 < slice_index label.new place.head }
     ensures crosses { IsTrue result.joined →
-        Crosses graph.now least back other.now (tail_of graph.now.net place.arc) }
+        Crosses graph.now threshold back other.now (tail_of graph.now.net place.arc) }
     ensures steps { steps.new ≤ steps.old + 1 }
 {
     let head = place.head as usize;
     if is_new(label[head], other[head]) {
-        if graph.left_along(place.arc, back, steps) < least {
+        if graph.left_along(place.arc, back, steps) < threshold {
             return Round {
                 known,
                 joined: false,
@@ -117,7 +118,7 @@ fn reach<L: Ledger>(
             joined: false,
         };
     }
-    let joined = label[head] == NO_LABEL && graph.left_along(place.arc, back, steps) >= least;
+    let joined = label[head] == NO_LABEL && graph.left_along(place.arc, back, steps) >= threshold;
     Round { known, joined }
 }
 
@@ -128,34 +129,34 @@ fn look_around<L: Ledger>(
     router: u32,
     back: bool,
     next: u32,
-    least: u64,
+    threshold: u64,
     label: &mut [u32],
     other: &[u32],
     queue: &mut [u32],
     known: usize,
     steps: &mut Steps<L>,
 ) -> Round
-    requires limit { graph.now.net.routers ≤ 1024 }
+    requires limit { graph.now.net.routers ≤ MOST_ROUTERS }
     requires router { router < graph.now.net.routers }
     requires label { graph.now.net.routers ≤ length label.old }
     requires other { graph.now.net.routers ≤ length other.now }
     requires queue { graph.now.net.routers ≤ length queue.old }
-    requires labelled { IsLabelled graph.now least back label.old queue.old known }
+    requires labelled { IsLabelled graph.now threshold back label.old queue.old known }
     requires level { slice_index label.old router + 1 ≡ next }
     requires tail { 0 < slice_index label.old router }
     requires apart { AreApart label.old other.now }
-    ensures labelled { IsLabelled graph.now least back label.new queue.new result.known }
+    ensures labelled { IsLabelled graph.now threshold back label.new queue.new result.known }
     ensures grows { Grows label.old queue.old known next label.new queue.new result.known }
     ensures apart { AreApart label.new other.now }
-    ensures reached { IsFalse result.joined → (v : ℕ) → LeadsOn graph.now least back router v →
+    ensures reached { IsFalse result.joined → (v : ℕ) → LeadsOn graph.now threshold back router v →
         0 < slice_index label.new v }
-    ensures crosses { IsTrue result.joined → Crosses graph.now least back other.now router }
+    ensures crosses { IsTrue result.joined → Crosses graph.now threshold back other.now router }
     ensures steps { steps.new ≤ steps.old + length (arcs_from graph.now.net router) }
 {
     let mut known = known;
     for place in graph.places_of(router) {
         let round = reach(
-            graph, *place, back, next, least, label, other, queue, known, steps,
+            graph, *place, back, next, threshold, label, other, queue, known, steps,
         );
         if round.joined {
             return round;
@@ -174,19 +175,19 @@ fn look_around<L: Ledger>(
 fn spread<L: Ledger>(
     graph: &Residual,
     back: bool,
-    least: u64,
+    threshold: u64,
     ball: Ball,
     label: &mut [u32],
     other: &[u32],
     queue: &mut [u32],
     steps: &mut Steps<L>,
 ) -> Round
-    requires limit { graph.now.net.routers ≤ 1024 }
+    requires limit { graph.now.net.routers ≤ MOST_ROUTERS }
     requires label { graph.now.net.routers ≤ length label.old }
     requires other { graph.now.net.routers ≤ length other.now }
     requires queue { graph.now.net.routers ≤ length queue.old }
     requires some { ball.front < ball.known }
-    requires ball { IsBall graph.now least back label.old queue.old
+    requires ball { IsBall graph.now threshold back label.old queue.old
         ball.front ball.known ball.known ball.radius }
     requires apart { AreApart label.old other.now }
     ensures more { ball.known ≤ result.known }
@@ -194,13 +195,13 @@ fn spread<L: Ledger>(
     ensures centre { slice_index queue.new 0 ≡ slice_index queue.old 0 }
     ensures apart { AreApart label.new other.now }
     ensures grown { IsFalse result.joined →
-        IsBall graph.now least back label.new queue.new
+        IsBall graph.now threshold back label.new queue.new
         ball.known result.known result.known (ball.radius + 1) }
     ensures stopped { IsTrue result.joined →
-        IsBall graph.now least back label.new queue.new
+        IsBall graph.now threshold back label.new queue.new
         ball.front ball.known result.known ball.radius }
     ensures meets { IsTrue result.joined →
-        Meets graph.now least back label.new other.now ball.radius }
+        Meets graph.now threshold back label.new other.now ball.radius }
     ensures steps { steps.new + work_of graph.now.net queue.old ball.front
         ≤ steps.old + work_of graph.now.net queue.new ball.known }
 {
@@ -211,7 +212,7 @@ fn spread<L: Ledger>(
             queue[done],
             back,
             ball.radius + 2,
-            least,
+            threshold,
             label,
             other,
             queue,
@@ -232,7 +233,7 @@ fn spread<L: Ledger>(
 impl Ball {
     /// The ball after a round that left so many routers in its queue.
     fn grown(self, known: usize) -> Ball
-        requires { self.radius < 1024 }
+        requires { self.radius < MOST_ROUTERS }
         ensures { result ≡ record { front = self.known; known = known; radius = self.radius + 1 } }
     {
         Ball {
@@ -247,7 +248,7 @@ impl Ball {
 /// at most half as many routers as the other's.
 fn grows_near(near: Ball, far: Ball) -> bool
     requires near { near.front ≤ near.known }
-    requires small { near.known ≤ 1024 }
+    requires small { near.known ≤ MOST_ROUTERS }
     requires far { far.front ≤ far.known }
     ensures { IsFalse result → far.front < far.known }
 {
@@ -290,7 +291,7 @@ pub fn search<L: Ledger>(
     graph: &Residual,
     s: u32,
     t: u32,
-    least: u64,
+    threshold: u64,
     label: &mut [u32],
     marks: &mut [u32],
     ahead: &mut [u32],
@@ -305,7 +306,7 @@ pub fn search<L: Ledger>(
     requires marks { length marks.old ≡ graph.now.net.routers }
     requires ahead { length ahead.old ≡ graph.now.net.routers }
     requires behind { length behind.old ≡ graph.now.net.routers }
-    ensures found { IsFound graph.now least s t label.new ahead.new result }
+    ensures found { IsFound graph.now threshold s t label.new ahead.new result }
     ensures steps { steps.new ≤ steps.old + arc_count graph.now.net }
 {
     let mut near = begin(s, label, ahead);
@@ -313,7 +314,7 @@ pub fn search<L: Ledger>(
     while near.front < near.known {
         let distance = near.radius + far.radius + 1;
         if grows_near(near, far) {
-            let round = spread(graph, false, least, near, label, marks, ahead, steps);
+            let round = spread(graph, false, threshold, near, label, marks, ahead, steps);
             if round.joined {
                 unlabel(label, &ahead[near.known..round.known]);
                 number(label, marks, &behind[..far.known], distance + 2);
@@ -321,7 +322,7 @@ pub fn search<L: Ledger>(
             }
             near = near.grown(round.known);
         } else {
-            let round = spread(graph, true, least, far, marks, label, behind, steps);
+            let round = spread(graph, true, threshold, far, marks, label, behind, steps);
             if round.joined {
                 number(label, marks, &behind[..far.known], distance + 2);
                 return Found::Joined(distance);

@@ -32,17 +32,17 @@ send_over-returns-then-cursor-place-clause-blocked g t c = λ _ leads.
     ap (λ (p : Place). p.head) c.place-place.ensures.value ∙ place_at-head net c.args.at in
     let spent : IsSpent net c.args.cursor.now (head_of net arc) =
     subst (λ (r : ℕ). IsSpent net c.args.cursor.now r) head (c.if-cursor-place.true ∙ c.begin.ensures.value) in
-    let apart = unspent c.args.graph.now c.args.least c.args.t c.args.label.now c.args.cursor.now arc c.requires.phase
+    let apart = unspent c.args.graph.now c.args.threshold c.args.t c.args.label.now c.args.cursor.now arc c.requires.phase
     within spent in
     inr (apart, spent)
 
 pub send_over-returns-clause-phase : goal.send_over-returns-clause-phase
 send_over-returns-clause-phase g t c =
     let over = is_over c.args.graph.now c.send_on-sent.new.graph c.push_some.new.graph c.args.cursor.now
-    c.send_on-sent.new.cursor c.args.label.now c.args.at c.args.least c.args.t c.send_on-sent.result c.args.next
+    c.send_on-sent.new.cursor c.args.label.now c.args.at c.args.threshold c.args.t c.send_on-sent.result c.args.next
     c.place-place.result c.place-place.ensures.value c.place-place.ensures.arc c.if-label-place.false c.requires.next
     c.send_on-sent.ensures.sends c.send_on-sent.ensures.phase c.push_some.ensures.value in
-    phase-push c.send_on-sent.new.graph c.push_some.new.graph c.args.least c.args.t c.args.label.now
+    phase-push c.send_on-sent.new.graph c.push_some.new.graph c.args.threshold c.args.t c.args.label.now
     c.send_on-sent.new.cursor (place_at c.args.graph.now.net c.args.at).arc c.send_on-sent.result over.push
     (rw over.same (omega (arith, c.requires.next, c.requires.labelled)))
     c.push_some.ensures.sound c.send_on-sent.ensures.phase
@@ -50,7 +50,7 @@ send_over-returns-clause-phase g t c =
 pub send_over-returns-clause-sends : goal.send_over-returns-clause-sends
 send_over-returns-clause-sends g t c =
     let over = is_over c.args.graph.now c.send_on-sent.new.graph c.push_some.new.graph c.args.cursor.now
-    c.send_on-sent.new.cursor c.args.label.now c.args.at c.args.least c.args.t c.send_on-sent.result c.args.next
+    c.send_on-sent.new.cursor c.args.label.now c.args.at c.args.threshold c.args.t c.send_on-sent.result c.args.next
     c.place-place.result c.place-place.ensures.value c.place-place.ensures.arc c.if-label-place.false c.requires.next
     c.send_on-sent.ensures.sends c.send_on-sent.ensures.phase c.push_some.ensures.value in
     over-sends c.args.graph.now c.send_on-sent.new.graph c.push_some.new.graph c.args.cursor.now
@@ -62,7 +62,7 @@ send_over-returns-clause-blocked g t c =
     let net = c.args.graph.now.net in
     let arc : ℕ = (place_at net c.args.at).arc in
     let over = is_over c.args.graph.now c.send_on-sent.new.graph c.push_some.new.graph c.args.cursor.now
-    c.send_on-sent.new.cursor c.args.label.now c.args.at c.args.least c.args.t c.send_on-sent.result c.args.next
+    c.send_on-sent.new.cursor c.args.label.now c.args.at c.args.threshold c.args.t c.send_on-sent.result c.args.next
     c.place-place.result c.place-place.ensures.value c.place-place.ensures.arc c.if-label-place.false c.requires.next
     c.send_on-sent.ensures.sends c.send_on-sent.ensures.phase c.push_some.ensures.value in
     let is_arc : c.place-place.result.arc ≡ arc = ap (λ (p : Place). p.arc) c.place-place.ensures.value in
@@ -71,8 +71,8 @@ send_over-returns-clause-blocked g t c =
     let left : pos c.left-left.result ≡ left_on c.args.graph.now arc =
     c.left-left.ensures.value ∙ ap (left_on c.args.graph.now) is_arc in
     over-blocked c.args.graph.now c.send_on-sent.new.graph c.push_some.new.graph c.args.cursor.now
-    c.send_on-sent.new.cursor c.args.label.now arc c.args.least c.args.t c.left-left.result c.min-most.result
-    c.args.limit c.send_on-sent.result over c.requires.least left c.min-most.ensures c.send_on-sent.ensures.most
+    c.send_on-sent.new.cursor c.args.label.now arc c.args.threshold c.args.t c.left-left.result c.min-most.result
+    c.args.limit c.send_on-sent.result over c.requires.threshold left c.min-most.ensures c.send_on-sent.ensures.most
     (subst (λ (r : ℕ). c.send_on-sent.result < c.min-most.result →
     (r ≢ c.args.t) × IsSpent c.send_on-sent.new.graph.net c.send_on-sent.new.cursor r)
     head c.send_on-sent.ensures.spent)
@@ -86,15 +86,15 @@ send-send_over-sent-requires g t c κs within =
     let router = c.args.router in
     let at = c.loop-at.at in
     let was = c.loop-at.invariant.passing in
-    let next = is_next start view c.args.least router c.args.t c.loop-at.sent label first c.loop-at.cursor at
+    let next = is_next start view c.args.threshold router c.args.t c.loop-at.sent label first c.loop-at.cursor at
     c.begin-end.result was c.requires.phase c.requires.router (omega arith) (omega arith)
     c.begin-end.ensures.value in
-    let net = passing-net start view c.args.least router c.args.t c.loop-at.sent label first c.loop-at.cursor at was in
+    let net = passing-net start view c.args.threshold router c.args.t c.loop-at.sent label first c.loop-at.cursor at was in
     let inside = next.inside in
     let leaves : get_or label router 0 + 1
     ≡ get_or label (tail_of view.net (place_at view.net at).arc) 0 + 1 =
     ap (λ (r : ℕ). get_or label r 0 + 1) (sym next.leaves.tail) in
-    let less = below-top start c.args.least c.args.t label router c.requires.phase.levelled c.requires.apart in
+    let less = below-top start c.args.threshold c.args.t label router c.requires.phase.levelled c.requires.apart in
     let small : c.args.t < view.net.routers = rw net c.requires.t in
     search rules
 
@@ -107,15 +107,15 @@ send-returns-then-sent-limit-clause-phase g t c =
     let router = c.args.router in
     let at = c.loop-at.at in
     let was = c.loop-at.invariant.passing in
-    let next = is_next start view c.args.least router c.args.t c.loop-at.sent label first c.loop-at.cursor at
+    let next = is_next start view c.args.threshold router c.args.t c.loop-at.sent label first c.loop-at.cursor at
     c.begin-end.result was c.requires.phase c.requires.router (omega arith) (omega arith)
     c.begin-end.ensures.value in
     let after = c.send_over-sent.new.graph in
     let new = c.send_over-sent.new.cursor in
-    let more = passing-more start view after c.args.least router c.args.t c.loop-at.sent c.send_over-sent.result label
+    let more = passing-more start view after c.args.threshold router c.args.t c.loop-at.sent c.send_over-sent.result label
     first c.loop-at.cursor new at was next c.send_over-sent.ensures.phase c.send_over-sent.ensures.sends
     c.send_over-sent.ensures.own in
-    passed-phase start after c.args.least router c.args.t (c.loop-at.sent + c.send_over-sent.result) label
+    passed-phase start after c.args.threshold router c.args.t (c.loop-at.sent + c.send_over-sent.result) label
     first new at more c.requires.router c.requires.apart (omega arith) (omega (arith, c.begin-end.ensures.value))
 
 pub send-returns-then-sent-limit-clause-sends : goal.send-returns-then-sent-limit-clause-sends
@@ -127,15 +127,15 @@ send-returns-then-sent-limit-clause-sends g t c =
     let router = c.args.router in
     let at = c.loop-at.at in
     let was = c.loop-at.invariant.passing in
-    let next = is_next start view c.args.least router c.args.t c.loop-at.sent label first c.loop-at.cursor at
+    let next = is_next start view c.args.threshold router c.args.t c.loop-at.sent label first c.loop-at.cursor at
     c.begin-end.result was c.requires.phase c.requires.router (omega arith) (omega arith)
     c.begin-end.ensures.value in
     let after = c.send_over-sent.new.graph in
     let new = c.send_over-sent.new.cursor in
-    let more = passing-more start view after c.args.least router c.args.t c.loop-at.sent c.send_over-sent.result label
+    let more = passing-more start view after c.args.threshold router c.args.t c.loop-at.sent c.send_over-sent.result label
     first c.loop-at.cursor new at was next c.send_over-sent.ensures.phase c.send_over-sent.ensures.sends
     c.send_over-sent.ensures.own in
-    passed-sends start after c.args.least router c.args.t (c.loop-at.sent + c.send_over-sent.result) label
+    passed-sends start after c.args.threshold router c.args.t (c.loop-at.sent + c.send_over-sent.result) label
     first new at more c.requires.router (omega arith)
 
 pub send-returns-then-sent-limit-clause-cost : goal.send-returns-then-sent-limit-clause-cost
@@ -147,15 +147,15 @@ send-returns-then-sent-limit-clause-cost g t c =
     let router = c.args.router in
     let at = c.loop-at.at in
     let was = c.loop-at.invariant.passing in
-    let next = is_next start view c.args.least router c.args.t c.loop-at.sent label first c.loop-at.cursor at
+    let next = is_next start view c.args.threshold router c.args.t c.loop-at.sent label first c.loop-at.cursor at
     c.begin-end.result was c.requires.phase c.requires.router (omega arith) (omega arith)
     c.begin-end.ensures.value in
     let after = c.send_over-sent.new.graph in
     let new = c.send_over-sent.new.cursor in
-    let more = passing-more start view after c.args.least router c.args.t c.loop-at.sent c.send_over-sent.result label
+    let more = passing-more start view after c.args.threshold router c.args.t c.loop-at.sent c.send_over-sent.result label
     first c.loop-at.cursor new at was next c.send_over-sent.ensures.phase c.send_over-sent.ensures.sends
     c.send_over-sent.ensures.own in
-    last-costs start after c.args.least router c.args.t (c.loop-at.sent + c.send_over-sent.result) label
+    last-costs start after c.args.threshold router c.args.t (c.loop-at.sent + c.send_over-sent.result) label
     first new at c.args.steps.now c.send_over-sent.new.steps more c.requires.phase c.requires.router
     c.requires.apart
     (pays-place (get_or label c.args.t 0 - (get_or label router 0 + 1)) (sum first) (sum c.loop-at.cursor) (sum new)
@@ -171,21 +171,21 @@ send-loop-at-preserved g t c =
     let router = c.args.router in
     let at = c.loop-at.at in
     let was = c.loop-at.invariant.passing in
-    let next = is_next start view c.args.least router c.args.t c.loop-at.sent label first c.loop-at.cursor at
+    let next = is_next start view c.args.threshold router c.args.t c.loop-at.sent label first c.loop-at.cursor at
     c.begin-end.result was c.requires.phase c.requires.router (omega arith) (omega arith)
     c.begin-end.ensures.value in
     let after = c.send_over-sent.new.graph in
     let new = c.send_over-sent.new.cursor in
-    let more = passing-more start view after c.args.least router c.args.t c.loop-at.sent c.send_over-sent.result label
+    let more = passing-more start view after c.args.threshold router c.args.t c.loop-at.sent c.send_over-sent.result label
     first c.loop-at.cursor new at was next c.send_over-sent.ensures.phase c.send_over-sent.ensures.sends
     c.send_over-sent.ensures.own in
     let short : c.send_over-sent.result < c.args.limit - c.loop-at.sent =
     omega (arith, c.send_over-sent.ensures.most, c.if-sent-limit.false) in
     let same : after.net ≡ view.net = ap (λ (v : ResidualView). v.net) c.send_over-sent.ensures.sends.same in
-    let blocked = subst (λ (n : Net). IsBlocked after c.args.least c.args.t label new (place_at n at).arc) (sym same)
+    let blocked = subst (λ (n : Net). IsBlocked after c.args.threshold c.args.t label new (place_at n at).arc) (sym same)
     (c.send_over-sent.ensures.blocked short) in
     record {
-      passing = passing-on start after c.args.least router c.args.t (c.loop-at.sent + c.send_over-sent.result) label
+      passing = passing-on start after c.args.threshold router c.args.t (c.loop-at.sent + c.send_over-sent.result) label
           first new at more blocked;
       some = omega arith;
       paid = pays-place (get_or label c.args.t 0 - (get_or label router 0 + 1)) (sum first) (sum c.loop-at.cursor)
@@ -205,7 +205,7 @@ send-returns-clause-phase g t c =
     let bound : get_or first router 0 ≤ c.begin-end.result =
     omega (arith, c.requires.phase.come.below router c.requires.router, c.begin-end.ensures.value) in
     let last : at ≡ c.begin-end.result = omega (arith, c.loop-at.auto.at-end bound) in
-    rw (← last) (passed-phase start view c.args.least router c.args.t c.loop-at.sent label first
+    rw (← last) (passed-phase start view c.args.threshold router c.args.t c.loop-at.sent label first
     c.loop-at.cursor at was c.requires.router c.requires.apart (omega arith)
     (omega (arith, c.begin-end.ensures.value)))
 
@@ -221,7 +221,7 @@ send-returns-clause-sends g t c =
     let bound : get_or first router 0 ≤ c.begin-end.result =
     omega (arith, c.requires.phase.come.below router c.requires.router, c.begin-end.ensures.value) in
     let last : at ≡ c.begin-end.result = omega (arith, c.loop-at.auto.at-end bound) in
-    rw (← last) (passed-sends start view c.args.least router c.args.t c.loop-at.sent label first
+    rw (← last) (passed-sends start view c.args.threshold router c.args.t c.loop-at.sent label first
     c.loop-at.cursor at was c.requires.router (omega arith))
 
 pub send-returns-clause-cost : goal.send-returns-clause-cost
@@ -236,6 +236,6 @@ send-returns-clause-cost g t c =
     let bound : get_or first router 0 ≤ c.begin-end.result =
     omega (arith, c.requires.phase.come.below router c.requires.router, c.begin-end.ensures.value) in
     let last : at ≡ c.begin-end.result = omega (arith, c.loop-at.auto.at-end bound) in
-    rw (← last) (passed-costs start view c.args.least router c.args.t c.loop-at.sent label first
+    rw (← last) (passed-costs start view c.args.threshold router c.args.t c.loop-at.sent label first
     c.loop-at.cursor at c.args.steps.now c.loop-at.steps was c.requires.phase c.requires.router c.requires.apart
     c.loop-at.invariant.paid)

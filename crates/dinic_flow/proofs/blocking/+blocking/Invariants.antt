@@ -13,7 +13,7 @@ decreases-send_over g l = 3 * (get_or l.label.now l.t 0 - l.next) + 2
 
 abbrev pub invariant-send-loop-at : goal.invariant-send-loop-at
 invariant-send-loop-at g l = record {
-  passing : IsPassing l.fn.graph l.graph l.least l.router l.t l.sent l.label l.fn.cursor l.cursor l.at;
+  passing : IsPassing l.fn.graph l.graph l.threshold l.router l.t l.sent l.label l.fn.cursor l.cursor l.at;
   some : l.sent < l.limit;
   paid :
       HasPaid (get_or l.label l.t 0 - l.next) l.fn.cursor l.cursor (get_or l.fn.cursor l.router 0) l.at

@@ -6,7 +6,7 @@ use Rattle.dinic_flow.proofs.flow.max_flow.Goals as goal
 
 pub loop-graph-preserved : goal.loop-graph-preserved
 loop-graph-preserved g c =
-    grows-on c.args.graph.now c.loop-graph.graph c.phase-value.new.graph c.args.least c.args.s c.args.t
+    grows-on c.args.graph.now c.loop-graph.graph c.phase-value.new.graph c.args.threshold c.args.s c.args.t
     c.loop-graph.value c.phase-value.result c.loop-graph.phases c.args.steps.now c.loop-graph.steps c.search.new.steps
     c.phase-value.new.steps c.in-Joined.field-0 c.search.new.label c.loop-graph.invariant c.in-Joined.ensures.found
     c.search.ensures.steps c.phase-value.ensures.same c.phase-value.ensures.sound c.phase-value.ensures.flow

@@ -11,7 +11,7 @@ use Rattle.dinic_flow.proofs.flow.phase.Goals as goal
 
 pub send-requires-clause-phase : goal.send-requires-clause-phase
 send-requires-clause-phase g c =
-    phase-begun c.args.graph.now c.args.least c.args.t c.args.label.now c.copy_begins.new.cursor c.requires.sound
+    phase-begun c.args.graph.now c.args.threshold c.args.t c.args.label.now c.copy_begins.new.cursor c.requires.sound
     c.requires.levelled c.requires.t (omega (arith, c.requires.cursor)) c.copy_begins.ensures.begins
 
 pub overflow_add-result : goal.overflow_add-result
@@ -38,7 +38,7 @@ returns-clause-farther g c =
     c.send.ensures.sends.sends (rw net at c.send.ensures.phase.sound.within) in
     let small = flow-small before.net c.args.s c.args.t after.flow (c.args.value + c.send.result)
     c.requires.sound.limits c.requires.s more in
-    farther after c.args.least c.args.s c.args.t c.args.label.now c.send.new.cursor c.send.ensures.phase
+    farther after c.args.threshold c.args.s c.args.t c.args.label.now c.send.new.cursor c.send.ensures.phase
     c.requires.start c.requires.flow.differ_ends (rw net c.requires.s)
     (c.send.ensures.spent (omega (arith, small)))
 
@@ -47,7 +47,7 @@ returns-clause-steps g c =
     let before = c.args.graph.now in
     let after = c.send.new.graph in
     let net : after.net ≡ before.net = ap (λ (v : ResidualView). v.net) c.send.ensures.sends.same in
-    let moved = cursors-move after c.args.least c.args.t c.args.label.now c.copy_begins.new.cursor c.send.new.cursor
+    let moved = cursors-move after c.args.threshold c.args.t c.args.label.now c.copy_begins.new.cursor c.send.new.cursor
     c.send.ensures.phase.sound c.send.ensures.phase (omega (arith, c.requires.cursor, ap (λ (n : Net). n.routers) net))
     (λ r small. rw net (c.copy_begins.ensures.begins r (rw net at small))) in
     phase-pays (get_or c.args.label.now c.args.t 0 - 1) (sum c.copy_begins.new.cursor) (sum c.send.new.cursor)

@@ -16,7 +16,7 @@ pub returns-then-round-clause-crosses : goal.returns-then-round-clause-crosses
 returns-then-round-clause-crosses g c = λ joined.
     let graph = c.args.graph.now in
     let place = c.places_of-place-items.ensures.each c.loop-place.place-index no_place c.loop-place-test.true in
-    subst (λ (r : ℕ). Crosses graph c.args.least c.args.back c.args.other.now r) place.tail
+    subst (λ (r : ℕ). Crosses graph c.args.threshold c.args.back c.args.other.now r) place.tail
     (c.reach-round.ensures.crosses joined)
 
 pub loop-place-preserved : goal.loop-place-preserved
@@ -27,7 +27,7 @@ loop-place-preserved g c = record {
       c.reach-round.result.known (omega (arith, c.requires.level)) c.loop-place.invariant.grows
       c.reach-round.ensures.grows;
   apart = c.reach-round.ensures.apart;
-  reached = reached-more c.args.graph.now c.args.least c.args.back c.places_of-place-items.result.now
+  reached = reached-more c.args.graph.now c.args.threshold c.args.back c.places_of-place-items.result.now
       c.loop-place.place-index c.loop-place.label c.loop-place.queue c.loop-place.known c.args.next
       c.reach-round.new.label c.reach-round.new.queue c.reach-round.result.known c.reach-round.ensures.grows
       c.loop-place.invariant.reached (c.reach-round.ensures.reached (search rules));
@@ -36,6 +36,6 @@ loop-place-preserved g c = record {
 
 pub returns-clause-reached : goal.returns-clause-reached
 returns-clause-reached g c = λ _ v leads.
-    reached-all c.args.graph.now c.args.least c.args.back c.places_of-place-items.result.now c.loop-place.label
+    reached-all c.args.graph.now c.args.threshold c.args.back c.places_of-place-items.result.now c.loop-place.label
     c.args.router v c.places_of-place-items.ensures.every
     (λ k short. c.loop-place.invariant.reached k (omega (arith, short, c.loop-place-test.false))) leads

@@ -7,11 +7,11 @@ use Rattle.dinic_flow.proofs.search.look_around.Given as goal
 
 abbrev pub invariant-loop-place : goal.invariant-loop-place
 invariant-loop-place g l = record {
-  labelled : IsLabelled l.graph l.least l.back l.label l.queue l.known;
+  labelled : IsLabelled l.graph l.threshold l.back l.label l.queue l.known;
   grows : Grows l.fn.label l.fn.queue l.fn.known l.next l.label l.queue l.known;
   apart : AreApart l.label l.other;
   reached : (k : ℕ) → k < l.place-index →
-      IsOpen l.graph l.least (turned l.back (get_or l.place-items k no_place).arc) →
+      IsOpen l.graph l.threshold (turned l.back (get_or l.place-items k no_place).arc) →
       0 < get_or l.label (get_or l.place-items k no_place).head 0;
   steps : l.steps ≤ l.fn.steps + l.place-index;
 }

@@ -10,19 +10,19 @@ use Rattle.dinic_flow.proofs.search.reach.Goals as goal
 
 pub offset_bounds-queue-known : goal.offset_bounds-queue-known
 offset_bounds-queue-known g c =
-    let few = known-few c.args.graph.now c.args.least c.args.back c.args.label.now c.args.queue.now c.args.known
+    let few = known-few c.args.graph.now c.args.threshold c.args.back c.args.label.now c.args.queue.now c.args.known
     c.args.place.head c.requires.labelled c.requires.place.below (c.is_new.ensures.0 c.if-is_new.true).0 in
     omega (arith, few, c.requires.limit)
 
 pub bounds-queue-known : goal.bounds-queue-known
 bounds-queue-known g c =
-    let few = known-few c.args.graph.now c.args.least c.args.back c.args.label.now c.args.queue.now c.args.known
+    let few = known-few c.args.graph.now c.args.threshold c.args.back c.args.label.now c.args.queue.now c.args.known
     c.args.place.head c.requires.labelled c.requires.place.below (c.is_new.ensures.0 c.if-is_new.true).0 in
     omega (arith, few, c.requires.queue)
 
 pub overflow_add-result : goal.overflow_add-result
 overflow_add-result g c =
-    let few = known-few c.args.graph.now c.args.least c.args.back c.args.label.now c.args.queue.now c.args.known
+    let few = known-few c.args.graph.now c.args.threshold c.args.back c.args.label.now c.args.queue.now c.args.known
     c.args.place.head c.requires.labelled c.requires.place.below (c.is_new.ensures.0 c.if-is_new.true).0 in
     omega (arith, few, c.requires.limit)
 
@@ -30,14 +30,14 @@ pub returns-then-is_new-clause-labelled : goal.returns-then-is_new-clause-labell
 returns-then-is_new-clause-labelled g c =
     let graph = c.args.graph.now in
     let none = (c.is_new.ensures.0 c.if-is_new.true).0 in
-    let is_open : IsOpen graph c.args.least (turned c.args.back c.args.place.arc) =
-    open-left c.args.least c.left_along.result _ c.left_along.ensures.value
-    (omega (arith, c.if-left_along-least.false)) in
-    let few = known-few graph c.args.least c.args.back c.args.label.now c.args.queue.now c.args.known
+    let is_open : IsOpen graph c.args.threshold (turned c.args.back c.args.place.arc) =
+    open-left c.args.threshold c.left_along.result _ c.left_along.ensures.value
+    (omega (arith, c.if-left_along-threshold.false)) in
+    let few = known-few graph c.args.threshold c.args.back c.args.label.now c.args.queue.now c.args.known
     c.args.place.head c.requires.labelled c.requires.place.below none in
-    labelled-grown graph c.args.least c.args.back c.args.label.now c.args.queue.now c.args.known
+    labelled-grown graph c.args.threshold c.args.back c.args.label.now c.args.queue.now c.args.known
     c.requires.labelled (tail_of graph.net c.args.place.arc) c.args.place.head c.args.next
-    (place-next graph c.args.least c.args.back c.args.label.now c.args.place c.args.next c.requires.place is_open
+    (place-next graph c.args.threshold c.args.back c.args.label.now c.args.place c.args.next c.requires.place is_open
     c.requires.label c.requires.tail c.requires.level none)
     (omega (arith, few, c.requires.queue))
 
@@ -45,14 +45,14 @@ pub returns-then-is_new-clause-grows : goal.returns-then-is_new-clause-grows
 returns-then-is_new-clause-grows g c =
     let graph = c.args.graph.now in
     let none = (c.is_new.ensures.0 c.if-is_new.true).0 in
-    let is_open : IsOpen graph c.args.least (turned c.args.back c.args.place.arc) =
-    open-left c.args.least c.left_along.result _ c.left_along.ensures.value
-    (omega (arith, c.if-left_along-least.false)) in
-    let few = known-few graph c.args.least c.args.back c.args.label.now c.args.queue.now c.args.known
+    let is_open : IsOpen graph c.args.threshold (turned c.args.back c.args.place.arc) =
+    open-left c.args.threshold c.left_along.result _ c.left_along.ensures.value
+    (omega (arith, c.if-left_along-threshold.false)) in
+    let few = known-few graph c.args.threshold c.args.back c.args.label.now c.args.queue.now c.args.known
     c.args.place.head c.requires.labelled c.requires.place.below none in
-    grows-one graph c.args.least c.args.back c.args.label.now c.args.queue.now c.args.known
+    grows-one graph c.args.threshold c.args.back c.args.label.now c.args.queue.now c.args.known
     c.requires.labelled (tail_of graph.net c.args.place.arc) c.args.place.head c.args.next
-    (place-next graph c.args.least c.args.back c.args.label.now c.args.place c.args.next c.requires.place is_open
+    (place-next graph c.args.threshold c.args.back c.args.label.now c.args.place c.args.next c.requires.place is_open
     c.requires.label c.requires.tail c.requires.level none)
     (omega (arith, few, c.requires.queue))
 
@@ -61,11 +61,11 @@ pub returns-then-label-head-eq-NO_LABEL-clause-crosses :
 returns-then-label-head-eq-NO_LABEL-clause-crosses g c = λ joined.
     let graph = c.args.graph.now in
     let look = c.left_along-then-label-head-eq-NO_LABEL in
-    let is_open : IsOpen graph c.args.least (turned c.args.back c.args.place.arc) =
-    open-left c.args.least look.result _ look.ensures.value (leb-true c.args.least look.result joined) in
+    let is_open : IsOpen graph c.args.threshold (turned c.args.back c.args.place.arc) =
+    open-left c.args.threshold look.result _ look.ensures.value (leb-true c.args.threshold look.result joined) in
     record {
       to = c.args.place.head;
-      leads = place-leads graph c.args.least c.args.back c.args.place c.requires.place is_open;
+      leads = place-leads graph c.args.threshold c.args.back c.args.place c.requires.place is_open;
       marked = elim (cases_eq (get_or c.args.other.now c.args.place.head 0) 0) [
         | inl bare ↦ absurd (false≢true (sym c.if-is_new.false
             ∙ c.is_new.ensures.1 (c.if-label-head-eq-NO_LABEL.true, bare)))

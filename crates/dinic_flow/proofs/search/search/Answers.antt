@@ -10,10 +10,10 @@ loop-near-init g c =
     let graph = c.args.graph.now in
     rw (c.begin-near.ensures.ball, c.begin-far.ensures.ball)
     record {
-      near_ball = begun-ball graph c.args.least false c.begin-near.new.label c.args.ahead.now
+      near_ball = begun-ball graph c.args.threshold false c.begin-near.new.label c.args.ahead.now
           c.begin-near.new.queue _ c.args.s c.begin-near.ensures.label c.begin-near.ensures.queue
           (omega arith) (omega arith) c.requires.s;
-      far_ball = begun-ball graph c.args.least true c.begin-far.new.label c.args.behind.now
+      far_ball = begun-ball graph c.args.threshold true c.begin-far.new.label c.args.behind.now
           c.begin-far.new.queue _ c.args.t c.begin-far.ensures.label c.begin-far.ensures.queue
           (omega arith) (omega arith) c.requires.t;
       near_few = omega (arith, c.requires.s);
@@ -28,24 +28,24 @@ loop-near-init g c =
 pub unlabel-requires : goal.unlabel-requires
 unlabel-requires g c =
     let stopped = c.spread-round.ensures.stopped c.if-round.true in
-    part-routers c.args.graph.now c.args.least false c.spread-round.new.label c.spread-round.new.queue
+    part-routers c.args.graph.now c.args.threshold false c.spread-round.new.label c.spread-round.new.queue
     c.spread-round.result.known c.loop-near.near.known c.spread-round.result.known _ stopped.labelled
     (omega arith) (omega arith)
 
 pub number-requires-clause-label : goal.number-requires-clause-label
 number-requires-clause-label g c =
-    front-routers c.args.graph.now c.args.least true c.loop-near.marks c.loop-near.behind c.loop-near.far.known
+    front-routers c.args.graph.now c.args.threshold true c.loop-near.marks c.loop-near.behind c.loop-near.far.known
     c.loop-near.far.known _ c.loop-near.invariant.far_ball.labelled (omega arith) (omega arith)
 
 pub number-requires-clause-marks : goal.number-requires-clause-marks
 number-requires-clause-marks g c =
-    front-routers c.args.graph.now c.args.least true c.loop-near.marks c.loop-near.behind c.loop-near.far.known
+    front-routers c.args.graph.now c.args.threshold true c.loop-near.marks c.loop-near.behind c.loop-near.far.known
     c.loop-near.far.known _ c.loop-near.invariant.far_ball.labelled (omega arith) (omega arith)
 
 pub returns-then-round-clause-found : goal.returns-then-round-clause-found
 returns-then-round-clause-found g c =
     let old = c.loop-near.invariant in
-    joined-near c.args.graph.now c.args.least c.args.s c.args.t c.spread-round.new.label c.loop-near.marks
+    joined-near c.args.graph.now c.args.threshold c.args.s c.args.t c.spread-round.new.label c.loop-near.marks
     c.unlabel.new.label c.number.new.label c.spread-round.new.queue c.loop-near.behind c.loop-near.near.front
     c.loop-near.near.known c.spread-round.result.known c.loop-near.near.radius c.loop-near.far.front
     c.loop-near.far.known c.loop-near.far.radius (c.spread-round.ensures.stopped c.if-round.true) old.far_ball
@@ -59,7 +59,7 @@ returns-then-round-clause-found g c =
 pub returns-then-round-clause-steps : goal.returns-then-round-clause-steps
 returns-then-round-clause-steps g c =
     let old = c.loop-near.invariant in
-    let work = work-both c.args.graph.now c.args.least c.spread-round.new.label c.loop-near.marks
+    let work = work-both c.args.graph.now c.args.threshold c.spread-round.new.label c.loop-near.marks
     c.spread-round.new.queue c.loop-near.behind c.loop-near.near.front c.loop-near.near.known
     c.spread-round.result.known c.loop-near.near.radius c.loop-near.far.front c.loop-near.far.known
     c.loop-near.far.known c.loop-near.far.radius c.loop-near.near.known c.loop-near.far.front
@@ -86,7 +86,7 @@ pub returns-then-round-2-clause-found : goal.returns-then-round-2-clause-found
 returns-then-round-2-clause-found g c =
     let old = c.loop-near.invariant in
     let round = c.spread-round-else-grows_near in
-    joined-far c.args.graph.now c.args.least c.args.s c.args.t c.loop-near.label
+    joined-far c.args.graph.now c.args.threshold c.args.s c.args.t c.loop-near.label
     c.spread-round-else-grows_near.new.label c.number-then-round-2.new.label c.loop-near.ahead
     c.spread-round-else-grows_near.new.queue c.loop-near.near.front c.loop-near.near.known c.loop-near.near.radius
     c.loop-near.far.front c.loop-near.far.known c.spread-round-else-grows_near.result.known
@@ -101,7 +101,7 @@ pub returns-then-round-2-clause-steps : goal.returns-then-round-2-clause-steps
 returns-then-round-2-clause-steps g c =
     let old = c.loop-near.invariant in
     let round = c.spread-round-else-grows_near in
-    let work = work-both c.args.graph.now c.args.least c.loop-near.label round.new.label c.loop-near.ahead
+    let work = work-both c.args.graph.now c.args.threshold c.loop-near.label round.new.label c.loop-near.ahead
     round.new.queue c.loop-near.near.front c.loop-near.near.known c.loop-near.near.known
     c.loop-near.near.radius c.loop-near.far.front c.loop-near.far.known round.result.known
     c.loop-near.far.radius c.loop-near.near.front c.loop-near.far.known old.near_ball
@@ -130,7 +130,7 @@ returns-clause-found g c =
     let old = c.loop-near.invariant in
     let far = old.far_ball.labelled in (
       omega (arith, old.near_few, c.loop-near.auto.ahead),
-      parted c.args.graph.now c.args.least c.args.s c.args.t c.loop-near.label c.loop-near.marks
+      parted c.args.graph.now c.args.threshold c.args.s c.args.t c.loop-near.label c.loop-near.marks
           c.loop-near.ahead c.loop-near.behind c.loop-near.near.front c.loop-near.near.known c.loop-near.near.radius
           old.near_ball (omega (arith, c.loop-near-test.false)) old.apart
           (omega (arith, old.near_few, c.loop-near.auto.ahead)) old.start far.centre old.end,
@@ -139,7 +139,7 @@ returns-clause-found g c =
 pub returns-clause-steps : goal.returns-clause-steps
 returns-clause-steps g c =
     let old = c.loop-near.invariant in
-    let work = work-both c.args.graph.now c.args.least c.loop-near.label c.loop-near.marks c.loop-near.ahead
+    let work = work-both c.args.graph.now c.args.threshold c.loop-near.label c.loop-near.marks c.loop-near.ahead
     c.loop-near.behind c.loop-near.near.front c.loop-near.near.known c.loop-near.near.known
     c.loop-near.near.radius c.loop-near.far.front c.loop-near.far.known c.loop-near.far.known
     c.loop-near.far.radius c.loop-near.near.front c.loop-near.far.front old.near_ball old.far_ball old.apart

@@ -4,8 +4,8 @@ use Rattle.dinic_flow.proofs.search.search.Given as goal
 
 abbrev pub invariant-loop-near : goal.invariant-loop-near
 invariant-loop-near g l = record {
-  near_ball : IsBall l.graph l.least false l.label l.ahead l.near.front l.near.known l.near.known l.near.radius;
-  far_ball : IsBall l.graph l.least true l.marks l.behind l.far.front l.far.known l.far.known l.far.radius;
+  near_ball : IsBall l.graph l.threshold false l.label l.ahead l.near.front l.near.known l.near.known l.near.radius;
+  far_ball : IsBall l.graph l.threshold true l.marks l.behind l.far.front l.far.known l.far.known l.far.radius;
   near_few : l.near.known ≤ l.graph.net.routers;
   far_few : l.far.known ≤ l.graph.net.routers;
   apart : AreApart l.label l.marks;

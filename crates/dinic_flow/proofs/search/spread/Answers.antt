@@ -8,19 +8,19 @@ use Rattle.dinic_flow.proofs.search.spread.Goals as goal
 
 pub offset_bounds-queue-done : goal.offset_bounds-queue-done
 offset_bounds-queue-done g c =
-    let most = known-most c.args.graph.now c.args.least c.args.back c.args.label.now c.args.queue.now
+    let most = known-most c.args.graph.now c.args.threshold c.args.back c.args.label.now c.args.queue.now
     c.args.ball.known c.requires.ball.labelled in
     omega (arith, most, c.requires.limit, c.loop-done-test.true)
 
 pub bounds-queue-done : goal.bounds-queue-done
 bounds-queue-done g c =
-    let most = known-most c.args.graph.now c.args.least c.args.back c.args.label.now c.args.queue.now
+    let most = known-most c.args.graph.now c.args.threshold c.args.back c.args.label.now c.args.queue.now
     c.args.ball.known c.requires.ball.labelled in
     omega (arith, most, c.requires.queue, c.loop-done-test.true, c.loop-done.auto.queue)
 
 pub overflow_add-ball : goal.overflow_add-ball
 overflow_add-ball g c =
-    let most = known-most c.args.graph.now c.args.least c.args.back c.args.label.now c.args.queue.now
+    let most = known-most c.args.graph.now c.args.threshold c.args.back c.args.label.now c.args.queue.now
     c.args.ball.known c.requires.ball.labelled in
     omega (arith, most, c.requires.limit, c.requires.some, c.requires.ball.deep)
 
@@ -30,7 +30,7 @@ returns-then-round-clause-stopped g c = λ joined.
     c.loop-done.label c.loop-done.queue c.loop-done.known c.look_around-round.new.label
     c.look_around-round.new.queue c.look_around-round.result.known (omega arith)
     c.loop-done.invariant.grows c.look_around-round.ensures.grows in
-    stopped-ball c.args.graph.now c.args.least c.args.back c.args.label.now c.args.queue.now c.args.ball.front
+    stopped-ball c.args.graph.now c.args.threshold c.args.back c.args.label.now c.args.queue.now c.args.ball.front
     c.args.ball.known c.args.ball.radius c.requires.ball c.look_around-round.new.label
     c.look_around-round.new.queue c.look_around-round.result.known grows c.look_around-round.ensures.labelled
 
@@ -44,7 +44,7 @@ returns-then-round-clause-meets g c = λ joined.
     (omega (arith, c.loop-done-test.true, c.loop-done.invariant.grows.more)) in
     record {
       from = get_or c.loop-done.queue c.loop-done.done 0;
-      level = rw same at (rim-kept c.args.graph.now c.args.least c.args.back c.args.label.now
+      level = rw same at (rim-kept c.args.graph.now c.args.threshold c.args.back c.args.label.now
           c.args.queue.now c.args.ball.front c.args.ball.known c.args.ball.radius c.requires.ball
           c.look_around-round.new.label c.look_around-round.new.queue c.look_around-round.result.known grows
           c.look_around-round.ensures.labelled c.loop-done.done c.loop-done.auto.done c.loop-done-test.true);
@@ -78,11 +78,11 @@ loop-done-preserved g c =
       labelled = round.ensures.labelled;
       grows = grows;
       apart = round.ensures.apart;
-      closed = all_closed-more graph c.args.least c.args.back round.new.label round.new.queue c.loop-done.done
-          (all_closed-kept graph c.args.least c.args.back c.loop-done.label c.loop-done.queue c.loop-done.known
+      closed = all_closed-more graph c.args.threshold c.args.back round.new.label round.new.queue c.loop-done.done
+          (all_closed-kept graph c.args.threshold c.args.back c.loop-done.label c.loop-done.queue c.loop-done.known
           (c.args.ball.radius + 2) round.new.label round.new.queue round.result.known c.loop-done.done
           c.loop-done.invariant.labelled round.ensures.grows (omega (arith, short)) c.loop-done.invariant.closed)
-          (closed-here graph c.args.least c.args.back c.args.label.now
+          (closed-here graph c.args.threshold c.args.back c.args.label.now
           c.args.queue.now c.args.ball.front c.args.ball.known c.args.ball.radius c.requires.ball
           round.new.label round.new.queue round.result.known grows round.ensures.labelled
           c.loop-done.done c.loop-done.auto.done c.loop-done-test.true
@@ -96,10 +96,10 @@ loop-done-preserved g c =
 
 pub returns-then-round-clause-few : goal.returns-then-round-clause-few
 returns-then-round-clause-few g c =
-    known-most c.args.graph.now c.args.least c.args.back c.look_around-round.new.label
+    known-most c.args.graph.now c.args.threshold c.args.back c.look_around-round.new.label
     c.look_around-round.new.queue c.look_around-round.result.known c.look_around-round.ensures.labelled
 
 pub returns-clause-few : goal.returns-clause-few
 returns-clause-few g c =
-    known-most c.args.graph.now c.args.least c.args.back c.loop-done.label c.loop-done.queue c.loop-done.known
+    known-most c.args.graph.now c.args.threshold c.args.back c.loop-done.label c.loop-done.queue c.loop-done.known
     c.loop-done.invariant.labelled
