@@ -146,7 +146,8 @@ unspent view threshold t label cursor arc phase within spent is =
     omega (arith, phase.come.fresh)
 
 -- Each router but t is below t.
-pub below-top : (view : ResidualView) (threshold t : ℕ) (label : List ℕ) (r : ℕ) → IsLevelled view threshold t label → r ≢ t →
+pub below-top : (view : ResidualView) (threshold t : ℕ) (label : List ℕ) (r : ℕ) →
+    IsLevelled view threshold t label → r ≢ t →
     get_or label r 0 < get_or label t 0
 below-top view threshold t label r levelled apart = elim (cases_lt (get_or label r 0) (get_or label t 0)) [
   | inl less ↦ less

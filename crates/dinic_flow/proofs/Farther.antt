@@ -17,13 +17,15 @@ use Rattle.dinic_flow.specs.Phases.{Rises, IsSpent, IsBlocked, IsPhase}
 use Rattle.dinic_flow.proofs.Relays.{height-label}
 
 -- An open arc rises by one level at most.
-arc-rises : (view : ResidualView) (threshold t u v : ℕ) (label : List ℕ) (levelled : IsLevelled view threshold t label) →
+arc-rises : (view : ResidualView) (threshold t u v : ℕ) (label : List ℕ)
+    (levelled : IsLevelled view threshold t label) →
     OpenArc view threshold u v → height levelled.mid label v ≤ height levelled.mid label u + 1
 arc-rises view threshold t u v label levelled arc =
     rw (arc.tail, arc.head) at (levelled.rises arc.arc arc.within arc.is_open)
 
 -- One that leaves a router without a label doesn't rise.
-arc-stays : (view : ResidualView) (threshold t u v : ℕ) (label : List ℕ) (levelled : IsLevelled view threshold t label) →
+arc-stays : (view : ResidualView) (threshold t u v : ℕ) (label : List ℕ)
+    (levelled : IsLevelled view threshold t label) →
     OpenArc view threshold u v → get_or label u 0 ≡ 0 → height levelled.mid label v ≤ levelled.mid
 arc-stays view threshold t u v label levelled arc none =
     rw arc.head at (levelled.stays arc.arc arc.within arc.is_open (rw arc.tail none))
@@ -35,7 +37,12 @@ climbs : (view : ResidualView) (threshold t : ℕ) (label : List ℕ) (levelled 
 climbs view threshold t label levelled some zero u is =
     omega (arith, height-label levelled.mid label t some, ap (λ (r : ℕ). height levelled.mid label r) is)
 climbs view threshold t label levelled some (suc arcs) u (w, arc, rest) =
-    omega (arith, climbs view threshold t label levelled some arcs w rest, arc-rises view threshold t u w label levelled arc)
+    omega (
+      arith,
+      climbs view threshold t label levelled some arcs w rest,
+      arc-rises view threshold t u w label
+          levelled arc,
+    )
 
 -- A router without a label is at the middle height.
 height-none : (mid : ℕ) (label : List ℕ) (r : ℕ) → get_or label r 0 ≡ 0 → height mid label r ≡ mid
@@ -47,23 +54,25 @@ labelled : (view : ResidualView) (threshold t : ℕ) (label : List ℕ) (levelle
     get_or label t 0 ≡ height levelled.mid label u + arcs → 0 < get_or label u 0
 labelled view threshold t label levelled some zero u is steep =
     omega (arith, some, ap (λ (r : ℕ). get_or label r 0) is)
-labelled view threshold t label levelled some (suc arcs) u (w, arc, rest) steep = elim (cases_eq (get_or label u 0) 0) [
-  | inr ne ↦ omega arith
-  | inl none ↦ absurd (omega (
-    arith,
-    climbs view threshold t label levelled some arcs w rest,
-    arc-stays view threshold t u w label levelled arc none,
-    height-none levelled.mid label u none,
-    steep,
-  ))
-]
+labelled view threshold t label levelled some (suc arcs) u (w, arc, rest) steep = elim
+    (cases_eq (get_or label u 0) 0) [
+      | inr ne ↦ omega arith
+      | inl none ↦ absurd (omega (
+        arith,
+        climbs view threshold t label levelled some arcs w rest,
+        arc-stays view threshold t u w label levelled arc none,
+        height-none levelled.mid label u none,
+        steep,
+      ))
+    ]
 
 -- No arc is both closed and open.
 closed-open : (x : ℤ) (threshold : ℕ) → x <ℤ pos threshold → pos threshold ≤ℤ x → ⊥
 closed-open x threshold below above = omega (arith, ints, below, above)
 
 -- From a spent router no walk to t rises by one level at each arc.
-stuck : (view : ResidualView) (threshold t : ℕ) (label cursor : List ℕ) (phase : IsPhase view threshold t label cursor) →
+stuck : (view : ResidualView) (threshold t : ℕ) (label cursor : List ℕ)
+    (phase : IsPhase view threshold t label cursor) →
     0 < get_or label t 0 → (arcs u : ℕ) → Walk view threshold arcs u t →
     get_or label t 0 ≡ height phase.levelled.mid label u + arcs → u ≢ t → u < view.net.routers →
     IsSpent view.net cursor u → ⊥
@@ -94,7 +103,8 @@ stuck view threshold t label cursor phase some (suc arcs) u (w, arc, rest) steep
     ]
 
 -- Once s is spent, each walk from s to t has more arcs than there are levels above s.
-pub farther : (view : ResidualView) (threshold s t : ℕ) (label cursor : List ℕ) → IsPhase view threshold t label cursor →
+pub farther : (view : ResidualView) (threshold s t : ℕ) (label cursor : List ℕ) →
+    IsPhase view threshold t label cursor →
     get_or label s 0 ≡ 1 → s ≢ t → s < view.net.routers → IsSpent view.net cursor s →
     IsFartherThan view threshold s t (get_or label t 0 - 1)
 farther view threshold s t label cursor phase start apart small spent arcs walk =

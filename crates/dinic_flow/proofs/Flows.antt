@@ -1,12 +1,11 @@
 -- Flows: how large they may be, and where they begin.
-use Rattle.std.proofs.Common.{◌≡◌, ◌≢◌, ℕ, ◌*◌, ◌<◌, ◌≤◌, Bool, true, false, cond, List, [], ◌∷◌}
-use Rattle.std.proofs.Common.{length, replicate, sym, ◌∙◌, ap, arith, refl, inl, inr}
+use Rattle.std.proofs.Common.{◌≡◌, ◌≢◌, ℕ, ◌<◌, ◌≤◌, Bool, true, false, cond, List, [], ◌∷◌}
+use Rattle.std.proofs.Common.{length, replicate, sym, ◌∙◌, ap, arith, refl}
 use Rattle.std.specs.Prelude.{ℤ, pos, ◌==◌, ◌+ℤ◌, ◌-ℤ◌}
-use Rattle.std.proofs.lemmas.Bool.{cases_Bool, eq-eqb, ne_eqb}
-use Rattle.std.proofs.lemmas.List.Sums.{sum_by-le}
+use Rattle.std.proofs.lemmas.Bool.{eq-eqb, ne_eqb}
 use Rattle.cut_model.specs.declared.network.Link.{Link}
-use Rattle.cut_model.specs.Net.{Net, IsLink, IsInLimits}
-use Rattle.cut_model.specs.Cuts.{RouterSet, differ, across, cut_value}
+use Rattle.cut_model.specs.Net.{Net, IsInLimits}
+use Rattle.cut_model.specs.Cuts.{RouterSet, cut_value}
 use Rattle.cut_model.specs.Flow.{out, IsWithinCaps, IsFlow}
 use Rattle.cut_model.proofs.Costs.{cut_value-most}
 use Rattle.cut_model.proofs.Duality.{flow_le}

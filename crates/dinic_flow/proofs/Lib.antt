@@ -4,7 +4,11 @@ pub mod Labels
 pub mod Rounds
 pub mod Spreading
 pub mod Levelling
-pub mod Meeting
+pub mod QueueFronts
+pub mod JoinedBalls
+pub mod PartedBalls
+pub mod BegunBalls
+pub mod WorkOfBalls
 pub mod Pushes
 pub mod Sending
 pub mod Relays

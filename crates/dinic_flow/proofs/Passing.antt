@@ -70,7 +70,8 @@ passing-more start view after threshold router t sent more label first cursor ne
       phase = phase;
       sends = sends-both start view after first cursor new label router t sent more passing.sends sent_on;
       own = subst (λ (r : ℕ). get_or new r 0 ≡ get_or cursor r 0) next.leaves.tail own ∙ passing.own;
-      blocked = passed-later view after cursor new label threshold router t more (get_or first router 0) at sent_on phase
+      blocked = passed-later view after cursor new label threshold router t more (get_or first router 0) at
+          sent_on phase
           passing.phase.sound.limits next.small next.from (omega (arith, next.high)) passing.blocked;
     }
 
@@ -126,7 +127,8 @@ HasPaid k first cursor from at before after =
     after + 2 * (k * sum first) + 2 * (k * from) + 2 * from ≤ before + 2 * (k * sum cursor) + 2 * (k * at) + 2 * at
 
 -- Levels above a router: one more than above the next one.
-levels-next : (view : ResidualView) (threshold router t : ℕ) (label cursor : List ℕ) → IsPhase view threshold t label cursor →
+levels-next : (view : ResidualView) (threshold router t : ℕ) (label cursor : List ℕ) →
+    IsPhase view threshold t label cursor →
     router ≢ t → get_or label t 0 - get_or label router 0 ≡ (get_or label t 0 - (get_or label router 0 + 1)) + 1
 levels-next view threshold router t label cursor phase apart =
     omega (arith, below-top view threshold t label router phase.levelled apart)

@@ -127,10 +127,11 @@ levelled-push before after threshold t label arc amount push some old =
         | inl was ↦ rw net (old.rises other (rw net at within) was)
         | inr twin ↦ rw (net, twin.head, twin.tail) (omega (arith, low, high, push.leads))
       ];
-      stays = λ other within is_open none. elim (open-before before after label threshold arc amount other push is_open) [
-        | inl was ↦ rw net (old.stays other (rw net at within) was (rw net at none))
-        | inr twin ↦ absurd (omega (arith, rw (net, twin.tail) at none, push.leads))
-      ];
+      stays = λ other within is_open none. elim (open-before before after label threshold arc amount other push
+          is_open) [
+            | inl was ↦ rw net (old.stays other (rw net at within) was (rw net at none))
+            | inr twin ↦ absurd (omega (arith, rw (net, twin.tail) at none, push.leads))
+          ];
     }
 
 -- What is blocked stays blocked after a push along an arc that leads on.
@@ -301,7 +302,8 @@ pub is_over : (before between after : ResidualView) (old new label : List ℕ) (
     Sends before between old new label place.head t amount → IsPhase between threshold t label new →
     after ≡ record between { flow = pushed between.flow place.arc amount } →
     IsOver before between after old new label (place_at before.net at).arc t amount
-is_over before between after old new label at threshold t amount next place is inside at_head at_tail sent phase pushes =
+is_over before between after old new label at threshold t amount next place is inside at_head at_tail sent phase
+    pushes =
     let arc : ℕ = (place_at before.net at).arc in
     let is_arc : place.arc ≡ arc = ap (λ (p : Place). p.arc) is in
     let is_head : place.head ≡ head_of before.net arc = ap (λ (p : Place). p.head) is ∙ place_at-head before.net at in
@@ -330,11 +332,13 @@ over-sends before between after old new label arc t amount over =
 -- An arc of which all was taken is closed.
 closes : (x y z : ℤ) (left amount threshold : ℕ) → pos left ≡ x → y ≡ x → z ≡ (y -ℤ pos amount) → amount ≡ left →
     0 < threshold → z <ℤ pos threshold
-closes x y z left amount threshold first second third whole some = omega (arith, ints, first, second, third, whole, some)
+closes x y z left amount threshold first second third whole some = omega
+    (arith, ints, first, second, third, whole, some)
 
 -- The arc is blocked then, if less than the limit was sent: it is closed, or its head is spent.
 pub over-blocked : (before between after : ResidualView) (old new label : List ℕ)
-    (arc threshold t left most limit amount : ℕ) → IsOver before between after old new label arc t amount → 0 < threshold →
+    (arc threshold t left most limit amount : ℕ) → IsOver before between after old new label arc t amount →
+    0 < threshold →
     pos left ≡ left_on before arc → most ≡ min left limit → amount ≤ most →
     (amount < most → (head_of before.net arc ≢ t) × IsSpent between.net new (head_of before.net arc)) →
     amount < limit → IsBlocked after threshold t label new arc
@@ -358,7 +362,8 @@ pub passed-later : (before after : ResidualView) (old new label : List ℕ) (thr
     begin_of before.net router ≤ from → to ≤ begin_of before.net (router + 1) →
     ((at : ℕ) → from ≤ at → at < to → IsBlocked before threshold t label old (place_at before.net at).arc) →
     (at : ℕ) → from ≤ at → at < to → IsBlocked after threshold t label new (place_at after.net at).arc
-passed-later before after old new label threshold router t x from to sent phase limits small start end passed at low high =
+passed-later before after old new label threshold router t x from to sent phase limits small start end passed at
+    low high =
     let net : after.net ≡ before.net = ap (λ (v : ResidualView). v.net) sent.same in
     let leaves : IsPlaceOf before.net router (place_at before.net at) =
     between-is before.net limits router at small (omega arith) (omega arith) in

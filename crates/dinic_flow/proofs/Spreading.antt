@@ -4,109 +4,113 @@ use Rattle.std.proofs.Common.{◌∙◌, subst, arith, refl, inl, inr}
 use Rattle.std.proofs.lemmas.Bool.{cases_lt}
 use Rattle.cut_model.specs.Net.{Net}
 use Rattle.residual_graph.specs.Arcs.{arcs_from}
-use Rattle.residual_graph.specs.View.{ResidualView}
+use Rattle.dinic_flow.specs.Balls.{Search, Reached, ball_of, round_of, grown_of, level_at}
 use Rattle.dinic_flow.specs.Balls.{LeadsOn, IsLabelled, Grows, IsClosedAt, IsBall, work_of}
+use Rattle.dinic_flow.specs.declared.search.Ball.{Ball}
 use Rattle.dinic_flow.proofs.Counting.{places-few}
 
 -- A queue has at most as many routers as there are.
-pub known-most : (view : ResidualView) (threshold : ℕ) (back : Bool) (label queue : List ℕ) (known : ℕ) →
-    IsLabelled view threshold back label queue known → known ≤ view.net.routers
-known-most view threshold back label queue known old =
-    let most : known + 0 ≤ view.net.routers = places-few view.net.routers queue known [] 0 old.differ
+pub known-most : {search : Search} {back : Bool} {reached : Reached} → IsLabelled search back reached →
+    reached.known ≤ search.view.net.routers
+known-most {search = search} {reached = reached} old =
+    let most : reached.known + 0 ≤ search.view.net.routers =
+    places-few search.view.net.routers reached.queue reached.known [] 0 old.differ
     (λ i j below short. absurd (omega (arith, short)))
     (λ i j below short. absurd (omega (arith, short)))
     old.routers (λ i short. absurd (omega (arith, short))) in
     omega (arith, most)
 
 -- What is closed stays so while labels are kept.
-pub closed-kept : (view : ResidualView) (threshold : ℕ) (back : Bool) (label wider : List ℕ) (u : ℕ) →
+pub closed-kept : (search : Search) (back : Bool) (label wider : List ℕ) (u : ℕ) →
     ((r : ℕ) → 0 < get_or label r 0 → get_or wider r 0 ≡ get_or label r 0) → 0 < get_or label u 0 →
-    IsClosedAt view threshold back label u → IsClosedAt view threshold back wider u
-closed-kept view threshold back label wider u kept some closed v leads =
+    IsClosedAt search back label u → IsClosedAt search back wider u
+closed-kept search back label wider u kept some closed v leads =
     let there = closed v leads in
     (rw (kept v there.0) there.0, rw (kept v there.0, kept u some) there.1)
 
--- So do the first places of a queue.
-pub all_closed-kept : (view : ResidualView) (threshold : ℕ) (back : Bool) (label queue : List ℕ) (known next : ℕ)
-    (wider longer : List ℕ) (count done : ℕ) → IsLabelled view threshold back label queue known →
-    Grows label queue known next wider longer count → done ≤ known →
-    ((k : ℕ) → k < done → IsClosedAt view threshold back label (get_or queue k 0)) →
-    (k : ℕ) → k < done → IsClosedAt view threshold back wider (get_or longer k 0)
-all_closed-kept view threshold back label queue known next wider longer count done old grows within closed k short =
-    let before : k < known = omega (arith, short, within) in
-    rw (grows.same k before)
-    (closed-kept view threshold back label wider (get_or queue k 0) grows.kept (old.positive k before) (closed k short))
+-- The first so many routers of the queue are closed.
+abbrev pub AreClosed : Search → Bool → Reached → ℕ → Type 0
+AreClosed search back reached done =
+    (k : ℕ) → k < done → IsClosedAt search back reached.label (get_or reached.queue k 0)
+
+-- They stay closed while what is reached grows.
+pub all_closed-kept : {search : Search} {back : Bool} {before after : Reached} {next : ℕ} (done : ℕ) →
+    IsLabelled search back before → Grows before after next → done ≤ before.known →
+    AreClosed search back before done → AreClosed search back after done
+all_closed-kept {search = search} {back = back} {before = before} {after = after} done old grows within closed k
+    short =
+    let inside : k < before.known = omega (arith, short, within) in
+    rw (grows.same k inside)
+    (closed-kept search back before.label after.label (get_or before.queue k 0) grows.kept (old.positive k inside)
+    (closed k short))
 
 -- And one place more.
-pub all_closed-more : (view : ResidualView) (threshold : ℕ) (back : Bool) (label queue : List ℕ) (done : ℕ) →
-    ((k : ℕ) → k < done → IsClosedAt view threshold back label (get_or queue k 0)) →
-    IsClosedAt view threshold back label (get_or queue done 0) →
-    (k : ℕ) → k < done + 1 → IsClosedAt view threshold back label (get_or queue k 0)
-all_closed-more view threshold back label queue done before here k short = elim (cases_lt k done) [
+pub all_closed-more : (search : Search) (back : Bool) (reached : Reached) (done : ℕ) →
+    AreClosed search back reached done → IsClosedAt search back reached.label (get_or reached.queue done 0) →
+    AreClosed search back reached (done + 1)
+all_closed-more search back reached done before here k short = elim (cases_lt k done) [
   | inl early ↦ before k early
   | inr late ↦ let last : k ≡ done = omega arith in rw last here
 ]
 
-module _ (view : ResidualView) (threshold : ℕ) (back : Bool) (label queue : List ℕ) (front known radius : ℕ)
-    (ball : IsBall view threshold back label queue front known known radius) (wider longer : List ℕ) (count : ℕ)
-    (grows : Grows label queue known (radius + 2) wider longer count)
-    (labelled : IsLabelled view threshold back wider longer count) where
+module _ (search : Search) (back : Bool) (label queue : List ℕ) (ball : Ball)
+    (is_ball : IsBall search back (ball_of label queue ball)) (after : Reached)
+    (grows : Grows (ball_of label queue ball).reached after (ball.radius + 2))
+    (labelled : IsLabelled search back after) where
   -- The labels of the ball's routers stay.
-  level-kept : (k : ℕ) → k < known → get_or wider (get_or longer k 0) 0 ≡ get_or label (get_or queue k 0) 0
-  level-kept k short = rw (grows.same k short) (grows.kept (get_or queue k 0) (ball.labelled.positive k short))
+  level-kept : (k : ℕ) → k < ball.known → level_at after k ≡ get_or label (get_or queue k 0) 0
+  level-kept k short = rw (grows.same k short) (grows.kept (get_or queue k 0) (is_ball.labelled.positive k short))
 
   -- The routers at the front are at the radius.
-  pub rim-kept : (k : ℕ) → front ≤ k → k < known → get_or wider (get_or longer k 0) 0 ≡ radius + 1
-  rim-kept k late short = level-kept k short ∙ ball.rim k late short
+  pub rim-kept : (k : ℕ) → ball.front ≤ k → k < ball.known → level_at after k ≡ ball.radius + 1
+  rim-kept k late short = level-kept k short ∙ is_ball.rim k late short
 
   -- Those of the ball stay within the radius.
-  inside-kept : (k : ℕ) → k < known → get_or wider (get_or longer k 0) 0 ≤ radius + 1
-  inside-kept k short = rw (level-kept k short) (ball.inside k short)
+  inside-kept : (k : ℕ) → k < ball.known → level_at after k ≤ ball.radius + 1
+  inside-kept k short = rw (level-kept k short) (is_ball.inside k short)
 
   -- Each router of the longer queue is at most one arc beyond the radius.
-  at-most : (k : ℕ) → k < count → get_or wider (get_or longer k 0) 0 ≤ radius + 2
-  at-most k short = elim (cases_lt k known) [
+  at-most : (k : ℕ) → k < after.known → level_at after k ≤ ball.radius + 2
+  at-most k short = elim (cases_lt k ball.known) [
     | inl early ↦ omega (arith, inside-kept k early)
     | inr late ↦ omega (arith, grows.fresh k late short)
   ]
 
   -- No label is larger than that of the new routers.
-  pub label-most : (r : ℕ) → 0 < get_or wider r 0 → get_or wider r 0 ≤ radius + 2
+  pub label-most : (r : ℕ) → 0 < get_or after.label r 0 → get_or after.label r 0 ≤ ball.radius + 2
   label-most r some =
       let (k, short, is) = labelled.held r some in
-      subst (λ (x : ℕ). get_or wider x 0 ≤ radius + 2) is (at-most k short)
+      subst (λ (x : ℕ). get_or after.label x 0 ≤ ball.radius + 2) is (at-most k short)
 
   -- Where a router of the front reaches routers with labels alone, it is closed.
-  pub closed-here : (k : ℕ) → front ≤ k → k < known →
-      ((v : ℕ) → LeadsOn view threshold back (get_or longer k 0) v → 0 < get_or wider v 0) →
-      IsClosedAt view threshold back wider (get_or longer k 0)
+  pub closed-here : (k : ℕ) → ball.front ≤ k → k < ball.known →
+      ((v : ℕ) → LeadsOn search back (get_or after.queue k 0) v → 0 < get_or after.label v 0) →
+      IsClosedAt search back after.label (get_or after.queue k 0)
   closed-here k late short reached v leads =
       let some = reached v leads in
       (some, omega (arith, label-most v some, rim-kept k late short))
 
   -- A ball that is stopped while it grows is one with a part of what lies beyond it.
-  pub stopped-ball : IsBall view threshold back wider longer front known count radius
+  pub stopped-ball : IsBall search back (round_of ball after)
   stopped-ball = record {
     labelled = labelled;
-    ordered = ball.ordered;
+    ordered = is_ball.ordered;
     within = grows.more;
-    deep = ball.deep;
+    deep = is_ball.deep;
     inside = inside-kept;
     rim = rim-kept;
     beyond = grows.fresh;
-    closed = all_closed-kept view threshold back label queue known (radius + 2) wider longer count front ball.labelled
-        grows ball.ordered ball.closed;
+    closed = all_closed-kept ball.front is_ball.labelled grows is_ball.ordered is_ball.closed;
   }
 
   -- A ball whose front was followed whole is a larger one.
-  pub grown-ball : front < known →
-      ((k : ℕ) → k < known → IsClosedAt view threshold back wider (get_or longer k 0)) →
-      IsBall view threshold back wider longer known count count (radius + 1)
+  pub grown-ball : ball.front < ball.known → AreClosed search back after ball.known →
+      IsBall search back (grown_of ball after)
   grown-ball some closed = record {
     labelled = labelled;
     ordered = grows.more;
     within = omega arith;
-    deep = omega (arith, ball.deep, some);
+    deep = omega (arith, is_ball.deep, some);
     inside = λ k short. omega (arith, at-most k short);
     rim = λ k late short. omega (arith, grows.fresh k late short);
     beyond = λ k late short. absurd (omega (arith, late, short));

@@ -4,75 +4,150 @@ use Rattle.std.specs.Prelude.{List, length, slice_index}
 use Rattle.cut_model.specs.Net.{Net}
 use Rattle.residual_graph.specs.Arcs.{arcs_from}
 use Rattle.residual_graph.specs.View.{ResidualView}
+use Rattle.dinic_flow.specs.declared.search.Ball.{Ball}
 use Rattle.dinic_flow.specs.Levels.{OpenArc, Walk}
 
+-- What a search goes over: the arcs of a residual graph on which at least so much is left.
+pub record Search : Type 0 where
+  pub view : ResidualView
+  pub threshold : ℕ
+
+-- The arcs of that graph with that threshold.
+abbrev pub search_of : ResidualView → ℕ → Search
+search_of view threshold = record { view = view; threshold = threshold }
+
+-- The routers that were reached: they stand in the first places of the queue, and each has a label.
+pub record Reached : Type 0 where
+  pub label : List ℕ
+  pub queue : List ℕ
+  pub known : ℕ
+
+-- Those of these labels and the first so many of this queue.
+abbrev pub reached_of : List ℕ → List ℕ → ℕ → Reached
+reached_of label queue known = record { label = label; queue = queue; known = known }
+
+-- A ball about the queue's first router, as far as it has come. The routers from place `front` up to place
+-- `stop` are at the radius, and those behind them are one arc beyond it.
+pub record BallView : Type 0 where
+  pub reached : Reached
+  pub front : ℕ
+  pub stop : ℕ
+  pub radius : ℕ
+
+-- The ball of these labels and this queue, which has nothing beyond its radius.
+abbrev pub ball_of : List ℕ → List ℕ → Ball → BallView
+ball_of label queue ball = record {
+  reached = reached_of label queue ball.known;
+  front = ball.front;
+  stop = ball.known;
+  radius = ball.radius;
+}
+
+-- The ball with what a round has reached beyond its radius.
+abbrev pub round_of : Ball → Reached → BallView
+round_of ball reached = record {
+  reached = reached;
+  front = ball.front;
+  stop = ball.known;
+  radius = ball.radius;
+}
+
+-- The ball of the next radius, after a whole round.
+abbrev pub grown_of : Ball → Reached → BallView
+grown_of ball reached = record {
+  reached = reached;
+  front = ball.known;
+  stop = reached.known;
+  radius = ball.radius + 1;
+}
+
+-- The label that a router has in a ball: 0 where it has none.
+abbrev pub label_in : BallView → ℕ → ℕ
+label_in ball r = slice_index ball.reached.label r
+
+-- The router about which a ball is.
+abbrev pub centre_of : BallView → ℕ
+centre_of ball = slice_index ball.reached.queue 0
+
 -- An open arc leads from u to v, or from v to u where arcs are followed back.
-abbrev pub LeadsOn : ResidualView → ℕ → Bool → ℕ → ℕ → Type 0
-LeadsOn view threshold false u v = OpenArc view threshold u v
-LeadsOn view threshold true u v = OpenArc view threshold v u
+abbrev pub LeadsOn : Search → Bool → ℕ → ℕ → Type 0
+LeadsOn search false u v = OpenArc search.view search.threshold u v
+LeadsOn search true u v = OpenArc search.view search.threshold v u
 
 -- So many open arcs lead from u to v, or from v to u where arcs are followed back.
-abbrev pub WalksOn : ResidualView → ℕ → Bool → ℕ → ℕ → ℕ → Type 0
-WalksOn view threshold false arcs u v = Walk view threshold arcs u v
-WalksOn view threshold true arcs u v = Walk view threshold arcs v u
+abbrev pub WalksOn : Search → Bool → ℕ → ℕ → ℕ → Type 0
+WalksOn search false arcs u v = Walk search.view search.threshold arcs u v
+WalksOn search true arcs u v = Walk search.view search.threshold arcs v u
+
+-- The label of the router at a place of the queue.
+abbrev pub level_at : Reached → ℕ → ℕ
+level_at reached k = slice_index reached.label (slice_index reached.queue k)
 
 -- Just the first routers of the queue have labels, none of them stands there twice, and the label of each
 -- is one more than the number of arcs of some walk from the queue's first router, or to it.
-pub record IsLabelled (view : ResidualView) (threshold : ℕ) (back : Bool) (label queue : List ℕ) (known : ℕ)
-    : Type 0 where
-  pub some : 0 < known
-  pub centre : slice_index label (slice_index queue 0) ≡ 1
-  pub routers : (k : ℕ) → k < known → slice_index queue k < view.net.routers
-  pub positive : (k : ℕ) → k < known → 0 < slice_index label (slice_index queue k)
-  pub held : (r : ℕ) → 0 < slice_index label r → (k : ℕ) × (k < known) × (slice_index queue k ≡ r)
-  pub differ : (i j : ℕ) → i < j → j < known → slice_index queue i ≢ slice_index queue j
+pub record IsLabelled (search : Search) (back : Bool) (reached : Reached) : Type 0 where
+  pub some : 0 < reached.known
+  pub centre : level_at reached 0 ≡ 1
+  pub routers : (k : ℕ) → k < reached.known → slice_index reached.queue k < search.view.net.routers
+  pub positive : (k : ℕ) → k < reached.known → 0 < level_at reached k
+  pub held :
+      (r : ℕ) → 0 < slice_index reached.label r →
+      (k : ℕ) × (k < reached.known) × (slice_index reached.queue k ≡ r)
+  pub differ :
+      (i j : ℕ) → i < j → j < reached.known → slice_index reached.queue i ≢ slice_index reached.queue j
   pub walks :
-      (k : ℕ) → k < known →
-      WalksOn view threshold back (slice_index label (slice_index queue k) - 1) (slice_index queue 0) (slice_index queue k)
+      (k : ℕ) → k < reached.known →
+      WalksOn search back (level_at reached k - 1) (slice_index reached.queue 0) (slice_index reached.queue k)
 
 -- The routers that had labels are as they were, and those that are new have this one.
-pub record Grows (label queue : List ℕ) (known next : ℕ) (wider longer : List ℕ) (count : ℕ) : Type 0 where
-  pub more : known ≤ count
-  pub same : (k : ℕ) → k < known → slice_index longer k ≡ slice_index queue k
-  pub kept : (r : ℕ) → 0 < slice_index label r → slice_index wider r ≡ slice_index label r
-  pub fresh : (k : ℕ) → known ≤ k → k < count → slice_index wider (slice_index longer k) ≡ next
+pub record Grows (before after : Reached) (next : ℕ) : Type 0 where
+  pub more : before.known ≤ after.known
+  pub same : (k : ℕ) → k < before.known → slice_index after.queue k ≡ slice_index before.queue k
+  pub kept :
+      (r : ℕ) → 0 < slice_index before.label r → slice_index after.label r ≡ slice_index before.label r
+  pub fresh : (k : ℕ) → before.known ≤ k → k < after.known → level_at after k ≡ next
 
 -- No router has both a label and a mark.
 abbrev pub AreApart : List ℕ → List ℕ → Type 0
 AreApart label marks = (r : ℕ) → 0 < slice_index label r → slice_index marks r ≡ 0
 
 -- An open arc leads on from router u to a router that has a mark.
-pub record Crosses (view : ResidualView) (threshold : ℕ) (back : Bool) (marks : List ℕ) (u : ℕ) : Type 0 where
+pub record Crosses (search : Search) (back : Bool) (marks : List ℕ) (u : ℕ) : Type 0 where
   pub to : ℕ
-  pub leads : LeadsOn view threshold back u to
+  pub leads : LeadsOn search back u to
   pub marked : 0 < slice_index marks to
 
--- One leads on from a router at just this radius.
-pub record Meets (view : ResidualView) (threshold : ℕ) (back : Bool) (label marks : List ℕ) (radius : ℕ)
-    : Type 0 where
+-- One leads on from a router at just the ball's radius.
+pub record Meets (search : Search) (back : Bool) (ball : BallView) (marks : List ℕ) : Type 0 where
   pub from : ℕ
-  pub level : slice_index label from ≡ radius + 1
-  pub crosses : Crosses view threshold back marks from
+  pub level : slice_index ball.reached.label from ≡ ball.radius + 1
+  pub crosses : Crosses search back marks from
 
 -- Each router to which an open arc leads on from router u has a label, at most one larger.
-abbrev pub IsClosedAt : ResidualView → ℕ → Bool → List ℕ → ℕ → Type 0
-IsClosedAt view threshold back label u =
-    (v : ℕ) → LeadsOn view threshold back u v →
+abbrev pub IsClosedAt : Search → Bool → List ℕ → ℕ → Type 0
+IsClosedAt search back label u =
+    (v : ℕ) → LeadsOn search back u v →
     (0 < slice_index label v) × (slice_index label v ≤ slice_index label u + 1)
 
--- A ball of a radius, with a part of what lies one arc beyond it. It has the queue's first `known` routers.
--- Those from place `front` up to place `stop` are at the radius, those behind them are beyond it, and the
--- arcs of those before place `front` were all followed.
-pub record IsBall (view : ResidualView) (threshold : ℕ) (back : Bool) (label queue : List ℕ)
-    (front stop known radius : ℕ) : Type 0 where
-  pub labelled : IsLabelled view threshold back label queue known
-  pub ordered : front ≤ stop
-  pub within : stop ≤ known
-  pub deep : radius ≤ front
-  pub inside : (k : ℕ) → k < stop → slice_index label (slice_index queue k) ≤ radius + 1
-  pub rim : (k : ℕ) → front ≤ k → k < stop → slice_index label (slice_index queue k) ≡ radius + 1
-  pub beyond : (k : ℕ) → stop ≤ k → k < known → slice_index label (slice_index queue k) ≡ radius + 2
-  pub closed : (k : ℕ) → k < front → IsClosedAt view threshold back label (slice_index queue k)
+-- The ball is as its places say: from `front` up to `stop` its routers are at the radius, those behind are
+-- beyond it, and the arcs of those before `front` were all followed.
+pub record IsBall (search : Search) (back : Bool) (ball : BallView) : Type 0 where
+  pub labelled : IsLabelled search back ball.reached
+  pub ordered : ball.front ≤ ball.stop
+  pub within : ball.stop ≤ ball.reached.known
+  pub deep : ball.radius ≤ ball.front
+  pub inside : (k : ℕ) → k < ball.stop → level_at ball.reached k ≤ ball.radius + 1
+  pub rim : (k : ℕ) → ball.front ≤ k → k < ball.stop → level_at ball.reached k ≡ ball.radius + 1
+  pub beyond : (k : ℕ) → ball.stop ≤ k → k < ball.reached.known → level_at ball.reached k ≡ ball.radius + 2
+  pub closed :
+      (k : ℕ) → k < ball.front → IsClosedAt search back ball.reached.label (slice_index ball.reached.queue k)
+
+-- Two balls with no router in common: from the centre of the one arcs are followed on, and from that of the
+-- other they are followed back.
+pub record AreBalls (search : Search) (near far : BallView) : Type 0 where
+  pub near_ball : IsBall search false near
+  pub far_ball : IsBall search true far
+  pub apart : AreApart near.reached.label far.reached.label
 
 -- The number of arcs that leave the first routers of a queue.
 abbrev pub work_of : Net → List ℕ → ℕ → ℕ

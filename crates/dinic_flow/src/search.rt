@@ -7,6 +7,7 @@ ghost use Rattle.residual_graph.specs.Arcs.{arc_count, arcs_from, tail_of, turne
 ghost use Rattle.residual_graph.specs.Places.{IsPlaceOf};
 ghost use Rattle.residual_graph.specs.View.{IsSound};
 ghost use Rattle.dinic_flow.specs.Levels.{IsOpen};
+ghost use Rattle.dinic_flow.specs.Balls.{search_of, reached_of, ball_of, round_of, grown_of};
 ghost use Rattle.dinic_flow.specs.Balls.{IsLabelled, Grows, LeadsOn, AreApart, Meets};
 ghost use Rattle.dinic_flow.specs.Balls.{IsBall, Crosses, work_of, IsLetOut, IsNumbered};
 ghost use Rattle.dinic_flow.specs.Searching.{IsFound};
@@ -90,17 +91,20 @@ fn reach<L: Ledger>(
     requires label { graph.now.net.routers ≤ length label.old }
     requires other { graph.now.net.routers ≤ length other.now }
     requires queue { graph.now.net.routers ≤ length queue.old }
-    requires labelled { IsLabelled graph.now threshold back label.old queue.old known }
+    requires labelled { IsLabelled (search_of graph.now threshold) back
+        (reached_of label.old queue.old known) }
     requires level { slice_index label.old (tail_of graph.now.net place.arc) + 1 ≡ next }
     requires tail { 0 < slice_index label.old (tail_of graph.now.net place.arc) }
     requires apart { AreApart label.old other.now }
-    ensures labelled { IsLabelled graph.now threshold back label.new queue.new result.known }
-    ensures grows { Grows label.old queue.old known next label.new queue.new result.known }
+    ensures labelled { IsLabelled (search_of graph.now threshold) back
+        (reached_of label.new queue.new result.known) }
+    ensures grows { Grows (reached_of label.old queue.old known)
+        (reached_of label.new queue.new result.known) next }
     ensures apart { AreApart label.new other.now }
     ensures reached { IsFalse result.joined → IsOpen graph.now threshold (turned back place.arc) →
         0 < slice_index label.new place.head }
     ensures crosses { IsTrue result.joined →
-        Crosses graph.now threshold back other.now (tail_of graph.now.net place.arc) }
+        Crosses (search_of graph.now threshold) back other.now (tail_of graph.now.net place.arc) }
     ensures steps { steps.new ≤ steps.old + 1 }
 {
     let head = place.head as usize;
@@ -141,16 +145,19 @@ fn look_around<L: Ledger>(
     requires label { graph.now.net.routers ≤ length label.old }
     requires other { graph.now.net.routers ≤ length other.now }
     requires queue { graph.now.net.routers ≤ length queue.old }
-    requires labelled { IsLabelled graph.now threshold back label.old queue.old known }
+    requires labelled { IsLabelled (search_of graph.now threshold) back
+        (reached_of label.old queue.old known) }
     requires level { slice_index label.old router + 1 ≡ next }
     requires tail { 0 < slice_index label.old router }
     requires apart { AreApart label.old other.now }
-    ensures labelled { IsLabelled graph.now threshold back label.new queue.new result.known }
-    ensures grows { Grows label.old queue.old known next label.new queue.new result.known }
+    ensures labelled { IsLabelled (search_of graph.now threshold) back
+        (reached_of label.new queue.new result.known) }
+    ensures grows { Grows (reached_of label.old queue.old known)
+        (reached_of label.new queue.new result.known) next }
     ensures apart { AreApart label.new other.now }
-    ensures reached { IsFalse result.joined → (v : ℕ) → LeadsOn graph.now threshold back router v →
+    ensures reached { IsFalse result.joined → (v : ℕ) → LeadsOn (search_of graph.now threshold) back router v →
         0 < slice_index label.new v }
-    ensures crosses { IsTrue result.joined → Crosses graph.now threshold back other.now router }
+    ensures crosses { IsTrue result.joined → Crosses (search_of graph.now threshold) back other.now router }
     ensures steps { steps.new ≤ steps.old + length (arcs_from graph.now.net router) }
 {
     let mut known = known;
@@ -187,21 +194,21 @@ fn spread<L: Ledger>(
     requires other { graph.now.net.routers ≤ length other.now }
     requires queue { graph.now.net.routers ≤ length queue.old }
     requires some { ball.front < ball.known }
-    requires ball { IsBall graph.now threshold back label.old queue.old
-        ball.front ball.known ball.known ball.radius }
+    requires ball { IsBall (search_of graph.now threshold) back (ball_of label.old queue.old ball) }
     requires apart { AreApart label.old other.now }
     ensures more { ball.known ≤ result.known }
     ensures few { result.known ≤ graph.now.net.routers }
     ensures centre { slice_index queue.new 0 ≡ slice_index queue.old 0 }
     ensures apart { AreApart label.new other.now }
     ensures grown { IsFalse result.joined →
-        IsBall graph.now threshold back label.new queue.new
-        ball.known result.known result.known (ball.radius + 1) }
+        IsBall (search_of graph.now threshold) back
+        (grown_of ball (reached_of label.new queue.new result.known)) }
     ensures stopped { IsTrue result.joined →
-        IsBall graph.now threshold back label.new queue.new
-        ball.front ball.known result.known ball.radius }
+        IsBall (search_of graph.now threshold) back
+        (round_of ball (reached_of label.new queue.new result.known)) }
     ensures meets { IsTrue result.joined →
-        Meets graph.now threshold back label.new other.now ball.radius }
+        Meets (search_of graph.now threshold) back
+        (round_of ball (reached_of label.new queue.new result.known)) other.now }
     ensures steps { steps.new + work_of graph.now.net queue.old ball.front
         ≤ steps.old + work_of graph.now.net queue.new ball.known }
 {

@@ -32,7 +32,8 @@ send_over-returns-then-cursor-place-clause-blocked g t c = λ _ leads.
     ap (λ (p : Place). p.head) c.place-place.ensures.value ∙ place_at-head net c.args.at in
     let spent : IsSpent net c.args.cursor.now (head_of net arc) =
     subst (λ (r : ℕ). IsSpent net c.args.cursor.now r) head (c.if-cursor-place.true ∙ c.begin.ensures.value) in
-    let apart = unspent c.args.graph.now c.args.threshold c.args.t c.args.label.now c.args.cursor.now arc c.requires.phase
+    let apart =
+    unspent c.args.graph.now c.args.threshold c.args.t c.args.label.now c.args.cursor.now arc c.requires.phase
     within spent in
     inr (apart, spent)
 
@@ -89,7 +90,8 @@ send-send_over-sent-requires g t c κs within =
     let next = is_next start view c.args.threshold router c.args.t c.loop-at.sent label first c.loop-at.cursor at
     c.begin-end.result was c.requires.phase c.requires.router (omega arith) (omega arith)
     c.begin-end.ensures.value in
-    let net = passing-net start view c.args.threshold router c.args.t c.loop-at.sent label first c.loop-at.cursor at was in
+    let net =
+    passing-net start view c.args.threshold router c.args.t c.loop-at.sent label first c.loop-at.cursor at was in
     let inside = next.inside in
     let leaves : get_or label router 0 + 1
     ≡ get_or label (tail_of view.net (place_at view.net at).arc) 0 + 1 =
@@ -112,7 +114,8 @@ send-returns-then-sent-limit-clause-phase g t c =
     c.begin-end.ensures.value in
     let after = c.send_over-sent.new.graph in
     let new = c.send_over-sent.new.cursor in
-    let more = passing-more start view after c.args.threshold router c.args.t c.loop-at.sent c.send_over-sent.result label
+    let more =
+    passing-more start view after c.args.threshold router c.args.t c.loop-at.sent c.send_over-sent.result label
     first c.loop-at.cursor new at was next c.send_over-sent.ensures.phase c.send_over-sent.ensures.sends
     c.send_over-sent.ensures.own in
     passed-phase start after c.args.threshold router c.args.t (c.loop-at.sent + c.send_over-sent.result) label
@@ -132,7 +135,8 @@ send-returns-then-sent-limit-clause-sends g t c =
     c.begin-end.ensures.value in
     let after = c.send_over-sent.new.graph in
     let new = c.send_over-sent.new.cursor in
-    let more = passing-more start view after c.args.threshold router c.args.t c.loop-at.sent c.send_over-sent.result label
+    let more =
+    passing-more start view after c.args.threshold router c.args.t c.loop-at.sent c.send_over-sent.result label
     first c.loop-at.cursor new at was next c.send_over-sent.ensures.phase c.send_over-sent.ensures.sends
     c.send_over-sent.ensures.own in
     passed-sends start after c.args.threshold router c.args.t (c.loop-at.sent + c.send_over-sent.result) label
@@ -152,7 +156,8 @@ send-returns-then-sent-limit-clause-cost g t c =
     c.begin-end.ensures.value in
     let after = c.send_over-sent.new.graph in
     let new = c.send_over-sent.new.cursor in
-    let more = passing-more start view after c.args.threshold router c.args.t c.loop-at.sent c.send_over-sent.result label
+    let more =
+    passing-more start view after c.args.threshold router c.args.t c.loop-at.sent c.send_over-sent.result label
     first c.loop-at.cursor new at was next c.send_over-sent.ensures.phase c.send_over-sent.ensures.sends
     c.send_over-sent.ensures.own in
     last-costs start after c.args.threshold router c.args.t (c.loop-at.sent + c.send_over-sent.result) label
@@ -176,16 +181,19 @@ send-loop-at-preserved g t c =
     c.begin-end.ensures.value in
     let after = c.send_over-sent.new.graph in
     let new = c.send_over-sent.new.cursor in
-    let more = passing-more start view after c.args.threshold router c.args.t c.loop-at.sent c.send_over-sent.result label
+    let more =
+    passing-more start view after c.args.threshold router c.args.t c.loop-at.sent c.send_over-sent.result label
     first c.loop-at.cursor new at was next c.send_over-sent.ensures.phase c.send_over-sent.ensures.sends
     c.send_over-sent.ensures.own in
     let short : c.send_over-sent.result < c.args.limit - c.loop-at.sent =
     omega (arith, c.send_over-sent.ensures.most, c.if-sent-limit.false) in
     let same : after.net ≡ view.net = ap (λ (v : ResidualView). v.net) c.send_over-sent.ensures.sends.same in
-    let blocked = subst (λ (n : Net). IsBlocked after c.args.threshold c.args.t label new (place_at n at).arc) (sym same)
+    let blocked =
+    subst (λ (n : Net). IsBlocked after c.args.threshold c.args.t label new (place_at n at).arc) (sym same)
     (c.send_over-sent.ensures.blocked short) in
     record {
-      passing = passing-on start after c.args.threshold router c.args.t (c.loop-at.sent + c.send_over-sent.result) label
+      passing = passing-on start after c.args.threshold router c.args.t
+          (c.loop-at.sent + c.send_over-sent.result) label
           first new at more blocked;
       some = omega arith;
       paid = pays-place (get_or label c.args.t 0 - (get_or label router 0 + 1)) (sum first) (sum c.loop-at.cursor)

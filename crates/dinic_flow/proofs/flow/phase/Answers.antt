@@ -47,7 +47,8 @@ returns-clause-steps g c =
     let before = c.args.graph.now in
     let after = c.send.new.graph in
     let net : after.net ≡ before.net = ap (λ (v : ResidualView). v.net) c.send.ensures.sends.same in
-    let moved = cursors-move after c.args.threshold c.args.t c.args.label.now c.copy_begins.new.cursor c.send.new.cursor
+    let moved =
+    cursors-move after c.args.threshold c.args.t c.args.label.now c.copy_begins.new.cursor c.send.new.cursor
     c.send.ensures.phase.sound c.send.ensures.phase (omega (arith, c.requires.cursor, ap (λ (n : Net). n.routers) net))
     (λ r small. rw net (c.copy_begins.ensures.begins r (rw net at small))) in
     phase-pays (get_or c.args.label.now c.args.t 0 - 1) (sum c.copy_begins.new.cursor) (sum c.send.new.cursor)

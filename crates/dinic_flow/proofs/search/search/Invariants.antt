@@ -1,14 +1,12 @@
-use Rattle.std.proofs.Common.{◌≡◌, ◌+◌, ◌-◌, ◌≤◌, false, true, length, get_or}
-use Rattle.dinic_flow.specs.Balls.{AreApart, IsBall, work_of}
+use Rattle.std.proofs.Common.{◌≡◌, ◌+◌, ◌-◌, ◌≤◌, length, get_or}
+use Rattle.dinic_flow.specs.Balls.{search_of, ball_of, AreBalls, work_of}
 use Rattle.dinic_flow.proofs.search.search.Given as goal
 
 abbrev pub invariant-loop-near : goal.invariant-loop-near
 invariant-loop-near g l = record {
-  near_ball : IsBall l.graph l.threshold false l.label l.ahead l.near.front l.near.known l.near.known l.near.radius;
-  far_ball : IsBall l.graph l.threshold true l.marks l.behind l.far.front l.far.known l.far.known l.far.radius;
+  balls : AreBalls (search_of l.graph l.threshold) (ball_of l.label l.ahead l.near) (ball_of l.marks l.behind l.far);
   near_few : l.near.known ≤ l.graph.net.routers;
   far_few : l.far.known ≤ l.graph.net.routers;
-  apart : AreApart l.label l.marks;
   start : get_or l.ahead 0 0 ≡ l.s;
   end : get_or l.behind 0 0 ≡ l.t;
   steps : l.steps ≤ l.fn.steps + work_of l.graph.net l.ahead l.near.front + work_of l.graph.net l.behind l.far.front;

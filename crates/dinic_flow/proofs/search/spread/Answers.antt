@@ -1,6 +1,6 @@
 -- The front is within the queue, and what is followed stays closed.
 use Rattle.std.proofs.Common.{◌+◌, ◌<◌, get_or, arith, rules}
-use Rattle.dinic_flow.specs.Balls.{work_of}
+use Rattle.dinic_flow.specs.Balls.{search_of, reached_of, work_of}
 use Rattle.dinic_flow.proofs.Labels.{grows-more}
 use Rattle.dinic_flow.proofs.Spreading.{known-most, all_closed-kept, all_closed-more, rim-kept, closed-here}
 use Rattle.dinic_flow.proofs.Spreading.{stopped-ball, work-more, work-mono}
@@ -8,45 +8,37 @@ use Rattle.dinic_flow.proofs.search.spread.Goals as goal
 
 pub offset_bounds-queue-done : goal.offset_bounds-queue-done
 offset_bounds-queue-done g c =
-    let most = known-most c.args.graph.now c.args.threshold c.args.back c.args.label.now c.args.queue.now
-    c.args.ball.known c.requires.ball.labelled in
+    let most = known-most c.requires.ball.labelled in
     omega (arith, most, c.requires.limit, c.loop-done-test.true)
 
 pub bounds-queue-done : goal.bounds-queue-done
 bounds-queue-done g c =
-    let most = known-most c.args.graph.now c.args.threshold c.args.back c.args.label.now c.args.queue.now
-    c.args.ball.known c.requires.ball.labelled in
+    let most = known-most c.requires.ball.labelled in
     omega (arith, most, c.requires.queue, c.loop-done-test.true, c.loop-done.auto.queue)
 
 pub overflow_add-ball : goal.overflow_add-ball
 overflow_add-ball g c =
-    let most = known-most c.args.graph.now c.args.threshold c.args.back c.args.label.now c.args.queue.now
-    c.args.ball.known c.requires.ball.labelled in
+    let most = known-most c.requires.ball.labelled in
     omega (arith, most, c.requires.limit, c.requires.some, c.requires.ball.deep)
 
 pub returns-then-round-clause-stopped : goal.returns-then-round-clause-stopped
 returns-then-round-clause-stopped g c = λ joined.
-    let grows = grows-more c.args.label.now c.args.queue.now c.args.ball.known (c.args.ball.radius + 2)
-    c.loop-done.label c.loop-done.queue c.loop-done.known c.look_around-round.new.label
-    c.look_around-round.new.queue c.look_around-round.result.known (omega arith)
-    c.loop-done.invariant.grows c.look_around-round.ensures.grows in
-    stopped-ball c.args.graph.now c.args.threshold c.args.back c.args.label.now c.args.queue.now c.args.ball.front
-    c.args.ball.known c.args.ball.radius c.requires.ball c.look_around-round.new.label
-    c.look_around-round.new.queue c.look_around-round.result.known grows c.look_around-round.ensures.labelled
+    let grows = grows-more (omega arith) c.loop-done.invariant.grows c.look_around-round.ensures.grows in
+    stopped-ball (search_of c.args.graph.now c.args.threshold) c.args.back c.args.label.now c.args.queue.now
+    c.args.ball
+    c.requires.ball (reached_of c.look_around-round.new.label c.look_around-round.new.queue
+    c.look_around-round.result.known) grows c.look_around-round.ensures.labelled
 
 pub returns-then-round-clause-meets : goal.returns-then-round-clause-meets
 returns-then-round-clause-meets g c = λ joined.
-    let grows = grows-more c.args.label.now c.args.queue.now c.args.ball.known (c.args.ball.radius + 2)
-    c.loop-done.label c.loop-done.queue c.loop-done.known c.look_around-round.new.label
-    c.look_around-round.new.queue c.look_around-round.result.known (omega arith)
-    c.loop-done.invariant.grows c.look_around-round.ensures.grows in
+    let grows = grows-more (omega arith) c.loop-done.invariant.grows c.look_around-round.ensures.grows in
     let same = c.look_around-round.ensures.grows.same c.loop-done.done
     (omega (arith, c.loop-done-test.true, c.loop-done.invariant.grows.more)) in
     record {
       from = get_or c.loop-done.queue c.loop-done.done 0;
-      level = rw same at (rim-kept c.args.graph.now c.args.threshold c.args.back c.args.label.now
-          c.args.queue.now c.args.ball.front c.args.ball.known c.args.ball.radius c.requires.ball
-          c.look_around-round.new.label c.look_around-round.new.queue c.look_around-round.result.known grows
+      level = rw same at (rim-kept (search_of c.args.graph.now c.args.threshold) c.args.back c.args.label.now
+          c.args.queue.now c.args.ball c.requires.ball (reached_of c.look_around-round.new.label
+          c.look_around-round.new.queue c.look_around-round.result.known) grows
           c.look_around-round.ensures.labelled c.loop-done.done c.loop-done.auto.done c.loop-done-test.true);
       crosses = c.look_around-round.ensures.crosses joined;
     }
@@ -67,10 +59,9 @@ pub loop-done-preserved : goal.loop-done-preserved
 loop-done-preserved g c =
     let graph = c.args.graph.now in
     let round = c.look_around-round in
-    let grows = grows-more c.args.label.now c.args.queue.now c.args.ball.known (c.args.ball.radius + 2)
-    c.loop-done.label c.loop-done.queue c.loop-done.known c.look_around-round.new.label
-    c.look_around-round.new.queue c.look_around-round.result.known (omega arith)
-    c.loop-done.invariant.grows c.look_around-round.ensures.grows in
+    let over = search_of graph c.args.threshold in
+    let reached = reached_of round.new.label round.new.queue round.result.known in
+    let grows = grows-more (omega arith) c.loop-done.invariant.grows c.look_around-round.ensures.grows in
     let short : c.loop-done.done < c.loop-done.known =
     omega (arith, c.loop-done-test.true, c.loop-done.invariant.grows.more) in
     let same = round.ensures.grows.same c.loop-done.done short in
@@ -78,13 +69,11 @@ loop-done-preserved g c =
       labelled = round.ensures.labelled;
       grows = grows;
       apart = round.ensures.apart;
-      closed = all_closed-more graph c.args.threshold c.args.back round.new.label round.new.queue c.loop-done.done
-          (all_closed-kept graph c.args.threshold c.args.back c.loop-done.label c.loop-done.queue c.loop-done.known
-          (c.args.ball.radius + 2) round.new.label round.new.queue round.result.known c.loop-done.done
-          c.loop-done.invariant.labelled round.ensures.grows (omega (arith, short)) c.loop-done.invariant.closed)
-          (closed-here graph c.args.threshold c.args.back c.args.label.now
-          c.args.queue.now c.args.ball.front c.args.ball.known c.args.ball.radius c.requires.ball
-          round.new.label round.new.queue round.result.known grows round.ensures.labelled
+      closed = all_closed-more over c.args.back reached c.loop-done.done
+          (all_closed-kept c.loop-done.done c.loop-done.invariant.labelled round.ensures.grows
+          (omega (arith, short)) c.loop-done.invariant.closed)
+          (closed-here over c.args.back c.args.label.now c.args.queue.now c.args.ball c.requires.ball reached
+          grows round.ensures.labelled
           c.loop-done.done c.loop-done.auto.done c.loop-done-test.true
           (rw same (round.ensures.reached (search rules))));
       steps = work-more graph.net c.loop-done.queue round.new.queue c.loop-done.done
@@ -96,10 +85,8 @@ loop-done-preserved g c =
 
 pub returns-then-round-clause-few : goal.returns-then-round-clause-few
 returns-then-round-clause-few g c =
-    known-most c.args.graph.now c.args.threshold c.args.back c.look_around-round.new.label
-    c.look_around-round.new.queue c.look_around-round.result.known c.look_around-round.ensures.labelled
+    known-most c.look_around-round.ensures.labelled
 
 pub returns-clause-few : goal.returns-clause-few
 returns-clause-few g c =
-    known-most c.args.graph.now c.args.threshold c.args.back c.loop-done.label c.loop-done.queue c.loop-done.known
-    c.loop-done.invariant.labelled
+    known-most c.loop-done.invariant.labelled
