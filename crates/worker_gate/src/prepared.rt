@@ -20,6 +20,12 @@ use std::sync::{Arc, Mutex, Wait};
 use std::thread::{self, Threads};
 use tree_state::{Finished, Growing};
 
+/// So many workers are always worth starting.
+const FEW_WORKERS: u32 = 4;
+
+/// One more is worth starting for each so many routers.
+const ROUTERS_EACH: u32 = 16;
+
 /// All that a build of one network needs: the tree before any commit, the queue of the routers that are to be
 /// committed, and the workers with their desks.
 #[derive(Drop)]
@@ -48,6 +54,17 @@ fn jobs_of(alloc: Global, net: &Network) -> Result<Vec<u32>, NoMemory>
         }
     }
     Ok(jobs)
+}
+
+/// How many workers are worth starting for so many routers. Where there are few, starting a thread costs more time than
+/// it saves.
+fn crew_size(most: u32, routers: u32) -> u32
+    requires { 0 < most }
+    ensures some { 0 < result }
+    ensures most { result ≤ most }
+{
+    let worth = FEW_WORKERS + routers / ROUTERS_EACH;
+    most.min(routers).min(worth).max(1)
 }
 
 /// A worker with a pass of a queue, and a desk that holds the network.
@@ -103,8 +120,8 @@ fn make_workers<L: Crew>(
 }
 
 /// Makes all that a build by so many workers needs, from 1 to 16, and takes all its memory: the tables, the queue, and
-/// for each worker a desk of the network's own size. There are no more workers than routers to be committed, and one
-/// at least.
+/// for each worker a desk of the network's own size. A small network gets fewer workers: no more than there are routers
+/// to be committed, and no more than are worth starting.
 ///
 /// # Errors
 /// [`NoMemory`] where that memory can't be had.
@@ -125,7 +142,7 @@ pub fn prepare<L: Crew, R: Wait>(
 {
     let (commits, mut rest) = blank.open::<L>();
     let list = jobs_of(alloc, &net)?;
-    let count = workers.min(list.len() as u32).max(1);
+    let count = crew_size(workers, list.len() as u32);
     let (jobs, passes) = Jobs::make(alloc, rt, list, count)?;
     let workers = make_workers(alloc, &net, &jobs, passes, &mut rest)?;
     let grow = Growing::make(alloc, net.clone()?)?;
@@ -161,9 +178,9 @@ fn gather<L: Crew>(locked: Locked<L>, workers: Vec<Worker<L>>, rest: Share<L>) -
 }
 
 impl<L: Crew + Send + Sync> Prepared<L> {
-    /// Builds the tree: the workers commit each terminal but the root by a least cut from the router above it, each in
-    /// a thread of its own where one can be made. The cuts are computed by the gate. It takes no memory and refuses
-    /// nothing.
+    /// Builds the tree: the workers commit each terminal but the root by a least cut from the router above it. Each
+    /// works in a thread of its own where one can be made, and one of them in the caller's. The cuts are computed by
+    /// the gate. It takes no memory and refuses nothing.
     pub fn build<R: Threads + Wait + Sync, G: Gate + Sync>(self, rt: &R, gate: &G) -> Finished
         requires { L.all ≡ L.parts }
         ensures { result.tree.net ≡ L.net }

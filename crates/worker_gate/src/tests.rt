@@ -15,6 +15,9 @@ use tree_state::Finished;
 /// How often a gate looks, before it notes a failure and lets go.
 const LOOKS: u32 = 20_000_000;
 
+/// After so many looks others may have the processor.
+const LOOKS_BEFORE_OTHERS: u32 = 1_000;
+
 /// The ends and the capacity of each link.
 const LINKS: [(u32, u32, u64); 9] = [
     (0, 1, 1),
@@ -58,11 +61,13 @@ impl Counts {
 
     /// Waits until a router has come so many times.
     fn wait_for(&self, came: &AtomicU64, times: u64) {
-        for _ in 0..LOOKS {
+        for look in 0..LOOKS {
             if came.load(Ordering::SeqCst) >= times {
                 return;
             }
-            thread::yield_now();
+            if look % LOOKS_BEFORE_OTHERS == 0 {
+                thread::yield_now();
+            }
         }
         self.failures.fetch_add(1, Ordering::SeqCst);
     }
