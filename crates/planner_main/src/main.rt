@@ -11,6 +11,7 @@ use std::io::{self, ErrorKind};
 use std::process::ExitCode;
 use std::rt::Env;
 use wires::{StdSink, StdSource};
+use worker_gate::OpenGate;
 
 /// The arguments without the program's own name.
 fn words(rt: &(impl Env + AllocGlobal)) -> io::Result<Vec<String>> {
@@ -36,7 +37,15 @@ fn main(rt: HostRuntime) -> ExitCode {
         Ok(words) => {
             let mut source = StdSource::make(rt.reader());
             let mut sink = StdSink::make(io::writer(&rt));
-            run(rt.alloc(), &words, &mut source, &mut sink).status
+            run(
+                rt.alloc(),
+                &rt,
+                &words,
+                &mut source,
+                &mut sink,
+                &OpenGate,
+            )
+            .status
         }
         Err(error) if error.kind() == ErrorKind::OutOfMemory => Status::NoMemory,
         // An argument that is no text is no word of a command.

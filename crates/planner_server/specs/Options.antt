@@ -7,7 +7,7 @@ use Rattle.planner_server.specs.declared.options.Given.{Given}
 use Rattle.planner_server.specs.declared.options.Given.TheVariants.{Missing, Number, Wrong}
 use Rattle.planner_server.specs.declared.options.OptionName.{OptionName}
 use Rattle.planner_server.specs.declared.options.OptionName.TheVariants.{Workers}
-use Rattle.session.specs.declared.session.TheConstants.{MOST_WORKERS}
+use Rattle.job_queue.specs.declared.jobs.TheConstants.{MOST_WORKERS}
 use Rattle.text_forms.specs.Numbers.{number_in}
 
 -- what a word of this option begins with

@@ -6,7 +6,7 @@ ghost use Rattle.planner_server.specs.Options.{are_options, given_in, is_of, lea
 ghost use Rattle.planner_server.specs.Options.{spelling_of};
 ghost use Rattle.text_forms.specs.Numbers.{number_in};
 
-use session::MOST_WORKERS;
+use job_queue::MOST_WORKERS;
 use text_forms::parse_number;
 
 /// The name of an option.

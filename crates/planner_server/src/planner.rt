@@ -2,10 +2,10 @@
 ghost use Rattle.std.specs.Prelude.{◌≡◌, ◌≢◌, ◌<◌, ◌≤◌, ◌↔◌, ◌⊎◌, [], None};
 ghost use Rattle.std.specs.Prelude.{length, map, IfOk, IfSome};
 ghost use Rattle.std.specs.String.{string_bytes};
+ghost use Rattle.job_queue.specs.declared.jobs.TheConstants.{MOST_WORKERS};
 ghost use Rattle.planner_server.specs.Commands.{command_of};
 ghost use Rattle.planner_server.specs.Runs.{PlanRan, Ran};
 ghost use Rattle.planner_server.specs.Statuses.{status_of};
-ghost use Rattle.session.specs.declared.session.TheConstants.{MOST_WORKERS};
 ghost use Rattle.tree_versions.specs.Records.{AreCutTrees, AreFinished};
 ghost use Rattle.tree_versions.specs.Solo.{views_of};
 ghost use Rattle.tree_versions.specs.declared.shelf.TheConstants.{MOST_RECORDS};
@@ -14,10 +14,14 @@ ghost use Rattle.wires.specs.Causes.{Rose};
 use crate::command::{Command, read_command};
 use crate::{Outcome, Status};
 use cut_model::NoMemory;
+use job_queue::MOST_WORKERS;
 use session::{Session, SessionEnd, serve_session};
 use std::alloc::Global;
+use std::sync::Wait;
+use std::thread::Threads;
 use tree_versions::SoloShelf;
 use wires::{Pair, Sink, Source};
+use worker_gate::Gate;
 
 /// All that `plan` needs: a session, and the shelf on which its records are published.
 #[derive(Drop)]
@@ -67,12 +71,14 @@ impl From<SessionEnd> for Status {
 }
 
 /// Serves a source and a sink as one peer.
-fn serve_both<S: Source, K: Sink>(
+fn serve_both<R: Threads + Wait + Sync, S: Source, K: Sink, G: Gate + Sync>(
     alloc: Global,
+    rt: &R,
     session: &mut Session,
     shelf: &mut SoloShelf,
     source: &mut S,
     sink: &mut K,
+    gate: &G,
 ) -> SessionEnd
     requires none { shelf.old.records ≡ [] }
     ensures ran { PlanRan (status_of result) (record {
@@ -97,11 +103,25 @@ fn serve_both<S: Source, K: Sink>(
     ensures beside_source { S.beside_source source.new ≡ S.beside_source source.old }
     ensures beside_sink { K.beside_sink sink.new ≡ K.beside_sink sink.old }
 {
-    serve_session(alloc, session, shelf, &mut Pair { source, sink })
+    serve_session(
+        alloc,
+        rt,
+        session,
+        shelf,
+        &mut Pair { source, sink },
+        gate,
+    )
 }
 
 /// The command `plan`: one session over the source and the sink.
-fn plan<S: Source, K: Sink>(alloc: Global, workers: u32, source: &mut S, sink: &mut K) -> Outcome
+fn plan<R: Threads + Wait + Sync, S: Source, K: Sink, G: Gate + Sync>(
+    alloc: Global,
+    rt: &R,
+    workers: u32,
+    source: &mut S,
+    sink: &mut K,
+    gate: &G,
+) -> Outcome
     requires some { 0 < workers }
     requires most { workers ≤ MOST_WORKERS }
     ensures ran { PlanRan result.status (record {
@@ -136,7 +156,7 @@ fn plan<S: Source, K: Sink>(alloc: Global, workers: u32, source: &mut S, sink: &
         mut session,
         mut shelf,
     } = planner;
-    let end = serve_both(alloc, &mut session, &mut shelf, source, sink);
+    let end = serve_both(alloc, rt, &mut session, &mut shelf, source, sink, gate);
     Outcome {
         status: Status::from(end),
         records: shelf.into_records(),
@@ -146,7 +166,8 @@ fn plan<S: Source, K: Sink>(alloc: Global, workers: u32, source: &mut S, sink: &
 /// Runs the command that the words name, over the source and the sink.
 ///
 /// It is `plan`, with the option `--workers`: a session that reads request lines to the end of the input or to BYE,
-/// and puts one reply for each item. The contract says for each status what was written: the replies to the whole items
+/// and puts one reply for each item. So many workers build the tree of a network that is loaded, and the gate computes
+/// their cuts. The contract says for each status what was written: the replies to the whole items
 /// of the bytes that were taken, over the records that are handed back. What a source or a sink doesn't tell of its
 /// bytes is left open.
 ///
@@ -155,12 +176,15 @@ fn plan<S: Source, K: Sink>(alloc: Global, workers: u32, source: &mut S, sink: &
 /// is its field `least`. That to WEAKEST is so for the whole network (`IsWeakestReport`).
 ///
 /// `NoMemory` comes only before the first read. A run takes at most 2^30 bytes from its source, keeps
-/// at most [`MOST_RECORDS`](tree_versions::MOST_RECORDS) records of up to about 400 kB each, and some 1,200 kB beside.
-pub fn run<S: Source, K: Sink>(
+/// at most [`MOST_RECORDS`](tree_versions::MOST_RECORDS) records of up to about 400 kB each, and some 820 kB beside;
+/// while a tree is built, it takes up to 450 kB for each worker.
+pub fn run<R: Threads + Wait + Sync, S: Source, K: Sink, G: Gate + Sync>(
     alloc: Global,
+    rt: &R,
     words: &[String],
     source: &mut S,
     sink: &mut K,
+    gate: &G,
 ) -> Outcome
     // The command was run: what was written, over the records that are handed back and no others.
     ensures ran { IfSome (command_of (map string_bytes words.now)) (λ command. Ran command result.status (record {
@@ -202,6 +226,6 @@ pub fn run<S: Source, K: Sink>(
 {
     match read_command(words) {
         None => refused(alloc, Status::BadWords),
-        Some(Command::Plan { workers }) => plan(alloc, workers, source, sink),
+        Some(Command::Plan { workers }) => plan(alloc, rt, workers, source, sink, gate),
     }
 }

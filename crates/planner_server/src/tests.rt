@@ -1,18 +1,32 @@
-//! Whole runs and sessions over sources and sinks in memory: pieces, and reads and puts that fail.
+//! Whole runs and sessions over sources and sinks in memory: pieces, reads and puts that fail, and workers that meet.
 ghost use Rattle.std.specs.Prelude.{◌<◌};
 
 use crate::{Status, run};
+use commit_rule::Ticket;
+use cut_model::{LeastCut, Network};
+use dinic_flow::FlowDesk;
 use session::{Session, SessionEnd, serve_session};
 use std::alloc::Global;
+use std::sync::Wait;
+use std::sync::atomic::{AtomicU64, Ordering};
 use std::test::Fail;
+use std::thread::{self, Threads};
 use tree_versions::SoloShelf;
 use wires::{MemoryPeer, MemorySink, MemorySource};
+use worker_gate::{Gate, OpenGate, compute};
+
+/// How often a gate looks, before it notes that it waited in vain.
+const LOOKS: u32 = 20_000_000;
 
 /// One network and a cut.
 const FIRST: &[u8] = b"LOAD\nlink a b 5\nEND\nCUT a b\nBYE\n";
 
 /// What `FIRST` gets by the rules of the protocol: replies of 28, 16 and 7 bytes.
 const FIRST_REPLIES: &[u8] = b"@1 LOADED routers 2 links 1\n@1 CUT 5 side a\n@1 BYE\n";
+
+/// A network of which two routers are to be cut from the third, and what it gets by whatever workers.
+const TWO_CUTS: &[u8] = b"LOAD\nlink a b 5\nlink b c 3\nEND\nCUT a b\n";
+const TWO_CUTS_REPLIES: &[u8] = b"@1 LOADED routers 3 links 2\n@1 CUT 5 side a\n";
 
 /// What a second session gets, over the record of the first.
 const SECOND_REPLIES: &[u8] = b"@2 LOADED routers 2 links 1\n@2 CUT 5 side a\n@2 BYE\n";
@@ -36,9 +50,22 @@ fn peer(
 }
 
 /// Whether a run of `plan` ends so, with the front of the replies that has this length.
-fn ends(alloc: Global, mut peer: MemoryPeer, status: Status, written: usize) -> Result<bool, Fail> {
+fn ends<R: Threads + Wait + Sync + AllocGlobal>(
+    rt: &R,
+    mut peer: MemoryPeer,
+    status: Status,
+    written: usize,
+) -> Result<bool, Fail> {
+    let alloc = rt.alloc();
     let words = vec![in alloc; String::from_str(alloc, "plan")?]?;
-    let outcome = run(alloc, &words, &mut peer.source, &mut peer.sink);
+    let outcome = run(
+        alloc,
+        rt,
+        &words,
+        &mut peer.source,
+        &mut peer.sink,
+        &OpenGate,
+    );
     let text = peer.sink.written();
     Ok(outcome.status == status && text.len() == written && FIRST_REPLIES.starts_with(text))
 }
@@ -46,8 +73,8 @@ fn ends(alloc: Global, mut peer: MemoryPeer, status: Status, written: usize) -> 
 #[test]
 fn replies_are_the_same_in_whatever_pieces_the_input_comes(rt: HostRuntime) -> Result<(), Fail> {
     let alloc = rt.alloc();
-    assert!(rt; ends(alloc, peer(alloc, 1, 0, 100, 0)?, Status::Done, 51)?);
-    assert!(rt; ends(alloc, peer(alloc, 7, 0, 100, 0)?, Status::Done, 51)?);
+    assert!(rt; ends(&rt, peer(alloc, 1, 0, 100, 0)?, Status::Done, 51)?);
+    assert!(rt; ends(&rt, peer(alloc, 7, 0, 100, 0)?, Status::Done, 51)?);
     Ok(())
 }
 
@@ -55,28 +82,28 @@ fn replies_are_the_same_in_whatever_pieces_the_input_comes(rt: HostRuntime) -> R
 fn a_read_that_fails_leaves_whole_replies(rt: HostRuntime) -> Result<(), Fail> {
     // In pieces of 8 bytes the third read has the line END, and the fourth the BYE.
     let alloc = rt.alloc();
-    assert!(rt; ends(alloc, peer(alloc, 8, 3, 100, 0)?, Status::ReadFault, 0)?);
-    assert!(rt; ends(alloc, peer(alloc, 8, 4, 100, 0)?, Status::ReadFault, 28)?);
+    assert!(rt; ends(&rt, peer(alloc, 8, 3, 100, 0)?, Status::ReadFault, 0)?);
+    assert!(rt; ends(&rt, peer(alloc, 8, 4, 100, 0)?, Status::ReadFault, 28)?);
     Ok(())
 }
 
 #[test]
 fn a_put_that_fails_leaves_a_front_of_the_replies(rt: HostRuntime) -> Result<(), Fail> {
     let alloc = rt.alloc();
-    assert!(rt; ends(alloc, peer(alloc, 99, 0, 100, 2)?, Status::WriteFault, 28)?);
-    assert!(rt; ends(alloc, peer(alloc, 99, 0, 30, 0)?, Status::WriteFault, 30)?);
+    assert!(rt; ends(&rt, peer(alloc, 99, 0, 100, 2)?, Status::WriteFault, 28)?);
+    assert!(rt; ends(&rt, peer(alloc, 99, 0, 30, 0)?, Status::WriteFault, 30)?);
     Ok(())
 }
 
 /// Whether a session over the shelf is done, with these replies.
-fn is_served(
-    alloc: Global,
+fn is_served<R: Threads + Wait + Sync + AllocGlobal>(
+    rt: &R,
     session: &mut Session,
     shelf: &mut SoloShelf,
     replies: &[u8],
 ) -> Result<bool, Fail> {
-    let mut peer = peer(alloc, 3, 0, 100, 0)?;
-    let end = serve_session(alloc, session, shelf, &mut peer);
+    let mut peer = peer(rt.alloc(), 3, 0, 100, 0)?;
+    let end = serve_session(rt.alloc(), rt, session, shelf, &mut peer, &OpenGate);
     Ok(end == SessionEnd::Done && peer.sink.written() == replies)
 }
 
@@ -85,7 +112,66 @@ fn a_session_begins_anew_over_the_records_of_the_one_before(rt: HostRuntime) -> 
     let alloc = rt.alloc();
     let mut session = Session::make(alloc, 1)?;
     let mut shelf = SoloShelf::make(alloc)?;
-    assert!(rt; is_served(alloc, &mut session, &mut shelf, FIRST_REPLIES)?);
-    assert!(rt; is_served(alloc, &mut session, &mut shelf, SECOND_REPLIES)?);
+    assert!(rt; is_served(&rt, &mut session, &mut shelf, FIRST_REPLIES)?);
+    assert!(rt; is_served(&rt, &mut session, &mut shelf, SECOND_REPLIES)?);
+    Ok(())
+}
+
+/// Holds router 1 back until router 2 has come.
+#[derive(Drop)]
+struct TwoAtOnce {
+    /// How often router 2 has come.
+    twos: AtomicU64,
+    /// How often router 1 waited in vain.
+    failures: AtomicU64,
+}
+
+impl TwoAtOnce {
+    fn wait_for_two(&self) {
+        for _ in 0..LOOKS {
+            if self.twos.load(Ordering::SeqCst) > 0 {
+                return;
+            }
+            thread::yield_now();
+        }
+        self.failures.fetch_add(1, Ordering::SeqCst);
+    }
+}
+
+impl Gate for TwoAtOnce {
+    fn cut<'a>(
+        &self,
+        _worker: u32,
+        desk: &mut FlowDesk,
+        ticket: &Ticket,
+        net: &'a Network,
+    ) -> LeastCut<'a> {
+        if ticket.router == 2 {
+            self.twos.fetch_add(1, Ordering::SeqCst);
+        } else if ticket.router == 1 {
+            self.wait_for_two();
+        }
+        compute(desk, ticket, net)
+    }
+}
+
+#[test]
+fn as_many_workers_build_a_tree_as_the_words_ask_for(rt: HostRuntime) -> Result<(), Fail> {
+    let alloc = rt.alloc();
+    let gate = TwoAtOnce {
+        twos: AtomicU64::new(0),
+        failures: AtomicU64::new(0),
+    };
+    let words = vec![in alloc;
+        String::from_str(alloc, "plan")?,
+        String::from_str(alloc, "--workers=2")?,
+    ]?;
+    let mut source = MemorySource::make(TWO_CUTS.to_vec(alloc)?, 99, vec![in alloc; 0]?);
+    let mut sink = MemorySink::make(alloc, 100, vec![in alloc; 0]?)?;
+    let outcome = run(alloc, &rt, &words, &mut source, &mut sink, &gate);
+    assert_eq!(rt; outcome.status, Status::Done);
+    assert_eq!(rt; sink.written(), TWO_CUTS_REPLIES);
+    assert!(rt; gate.twos.load(Ordering::SeqCst) > 0);
+    assert_eq!(rt; gate.failures.load(Ordering::SeqCst), 0);
     Ok(())
 }

@@ -4,7 +4,6 @@ pub mod Ending
 pub mod Turning
 pub mod Loading
 pub mod Requesting
-pub mod Building
 pub mod Completing
 pub mod Deciding
 pub mod Examples

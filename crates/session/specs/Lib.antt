@@ -3,4 +3,3 @@ pub mod Modes
 pub mod Sessions
 pub mod Taking
 pub mod Turns
-pub mod Building

@@ -5,11 +5,11 @@
 //! items that were read, over the records that the shelf has seen then.
 #![tactic(auto)]
 
-mod build;
 mod intake;
+mod means;
 mod serve;
 mod session;
 mod state;
 
 pub use serve::SessionEnd;
-pub use session::{MOST_WORKERS, Session, serve_session};
+pub use session::{Session, serve_session};

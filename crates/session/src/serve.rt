@@ -15,11 +15,14 @@ ghost use Rattle.wires.specs.Bytes.{PutAppends};
 ghost use Rattle.wires.specs.Causes.{HasCause, Rose};
 
 use crate::intake::Taken;
+use crate::means::Means;
 use crate::state::State;
 use line_reader::{Line, LineReader, Next};
-use std::alloc::Global;
+use std::sync::Wait;
+use std::thread::Threads;
 use tree_versions::Shelf;
 use wires::{Failed, Peer};
+use worker_gate::Gate;
 
 /// How a session ends.
 #[derive(Clone, Copy, PartialEq, Eq, Debug)]
@@ -66,8 +69,8 @@ fn put_reply<P: Peer>(state: &State, peer: &mut P) -> Result<(), Failed>
 }
 
 /// Takes a line, puts its reply, and says whether it was a BYE.
-fn answer_line<H: Shelf, P: Peer>(
-    alloc: Global,
+fn answer_line<R: Threads + Wait + Sync, H: Shelf, P: Peer, G: Gate + Sync>(
+    means: &Means<'_, R, G>,
     state: &mut State,
     shelf: &mut H,
     line: &[u8],
@@ -85,7 +88,7 @@ fn answer_line<H: Shelf, P: Peer>(
     ensures faults { P.read_faults peer.new ≡ P.read_faults peer.old }
     ensures beside { P.beside_peer peer.new ≡ P.beside_peer peer.old }
 {
-    match state.take_line(alloc, shelf, line) {
+    match state.take_line(means, shelf, line) {
         Taken::Silent => Ok(false),
         Taken::Reply => {
             put_reply(state, peer)?;
@@ -123,8 +126,8 @@ fn close_input<H: Shelf, P: Peer>(
 }
 
 /// Answers the last line, which has no line feed, and what is owed behind it.
-fn answer_last<H: Shelf, P: Peer>(
-    alloc: Global,
+fn answer_last<R: Threads + Wait + Sync, H: Shelf, P: Peer, G: Gate + Sync>(
+    means: &Means<'_, R, G>,
     state: &mut State,
     shelf: &mut H,
     line: &[u8],
@@ -150,7 +153,7 @@ fn answer_last<H: Shelf, P: Peer>(
     ensures faults { P.read_faults peer.new ≡ P.read_faults peer.old }
     ensures beside { P.beside_peer peer.new ≡ P.beside_peer peer.old }
 {
-    if answer_line(alloc, state, shelf, line, peer)? {
+    if answer_line(means, state, shelf, line, peer)? {
         Ok(())
     } else {
         close_input(state, shelf, peer)
@@ -158,8 +161,8 @@ fn answer_last<H: Shelf, P: Peer>(
 }
 
 /// Reads a line and answers it. It gives an end where the session has ended.
-fn turn<H: Shelf, P: Peer>(
-    alloc: Global,
+fn turn<R: Threads + Wait + Sync, H: Shelf, P: Peer, G: Gate + Sync>(
+    means: &Means<'_, R, G>,
     reader: &mut LineReader,
     line: &mut Line,
     state: &mut State,
@@ -186,12 +189,12 @@ fn turn<H: Shelf, P: Peer>(
         < (MOST_BYTES + length reader.old.bytes) - reader.old.taken }
 {
     match read_line(reader, line, peer) {
-        Ok(Next::Whole) => match answer_line(alloc, state, shelf, line.bytes(), peer) {
+        Ok(Next::Whole) => match answer_line(means, state, shelf, line.bytes(), peer) {
             Ok(true) => Some(SessionEnd::Done),
             Ok(false) => None,
             Err(_) => Some(SessionEnd::WriteFault),
         },
-        Ok(Next::Last) => match answer_last(alloc, state, shelf, line.bytes(), peer) {
+        Ok(Next::Last) => match answer_last(means, state, shelf, line.bytes(), peer) {
             Ok(()) => Some(SessionEnd::Done),
             Err(_) => Some(SessionEnd::WriteFault),
         },
@@ -205,8 +208,8 @@ fn turn<H: Shelf, P: Peer>(
 }
 
 /// Serves the session to its end.
-pub fn serve<H: Shelf, P: Peer>(
-    alloc: Global,
+pub fn serve<R: Threads + Wait + Sync, H: Shelf, P: Peer, G: Gate + Sync>(
+    means: &Means<'_, R, G>,
     reader: &mut LineReader,
     line: &mut Line,
     state: &mut State,
@@ -228,7 +231,7 @@ pub fn serve<H: Shelf, P: Peer>(
     ensures beside { P.beside_peer peer.new ≡ P.beside_peer peer.old }
 {
     'lines: loop {
-        if let Some(end) = turn(alloc, reader, line, state, shelf, peer) {
+        if let Some(end) = turn(means, reader, line, state, shelf, peer) {
             return end;
         }
     }

@@ -1,22 +1,24 @@
 //! A session: its scratch, and the call that serves one peer.
 ghost use Rattle.std.specs.Prelude.{◌≡◌, ◌≤◌, ◌<◌, ◌^◌, ◌++◌, ℕ, List, Some, false, length};
+ghost use Rattle.job_queue.specs.declared.jobs.TheConstants.{MOST_WORKERS};
 ghost use Rattle.line_reader.specs.declared.reader.TheConstants.{MOST_BYTES};
 ghost use Rattle.session.specs.Turns.{EndsAs};
-ghost use Rattle.session.specs.declared.session.TheConstants.{MOST_WORKERS};
 ghost use Rattle.text_forms.specs.Items.{NoBye, items_of};
 ghost use Rattle.wires.specs.Causes.{Rose};
 
 use crate::intake::Intake;
+use crate::means::Means;
 use crate::serve::{SessionEnd, serve};
 use crate::state::State;
 use cut_model::NoMemory;
+use job_queue::MOST_WORKERS;
 use line_reader::{Line, LineReader};
 use std::alloc::Global;
+use std::sync::Wait;
+use std::thread::Threads;
 use tree_versions::Shelf;
 use wires::Peer;
-
-/// The most workers that may build the trees of a session.
-pub const MOST_WORKERS: u32 = 16;
+use worker_gate::Gate;
 
 /// The scratch of a session. Nothing of one session lasts into the next.
 #[derive(Drop)]
@@ -27,8 +29,8 @@ pub struct Session {
 }
 
 impl Session {
-    /// Takes all memory that a session needs beside that of the texts that it loads. Its trees may be
-    /// built by so many workers, 1 to [`MOST_WORKERS`]; the session builds them alone, whatever their number.
+    /// Takes all memory that a session needs beside that of the texts that it loads and of their trees, each of which
+    /// so many workers will build, from 1 to [`MOST_WORKERS`].
     ///
     /// # Errors
     /// [`NoMemory`] where that memory can't be had.
@@ -36,27 +38,28 @@ impl Session {
         requires some { 0 < workers }
         requires most { workers ≤ MOST_WORKERS }
     {
-        let _ = workers;
         Ok(Session {
             reader: LineReader::make(alloc)?,
             line: Line::make(alloc)?,
-            state: State::make(alloc)?,
+            state: State::make(alloc, workers)?,
         })
     }
 }
 
 /// Serves one peer: it reads request lines to the end of the input or to BYE, and puts one reply for each
-/// item. Whatever the session was used for before, it begins without bytes and with the records that the
+/// item. The tree of a network that it loads is built by the session's workers, whose cuts the gate computes. Whatever the session was used for before, it begins without bytes and with the records that the
 /// shelf has seen.
 ///
 /// The contract says for each end what was written: the replies to the whole items of the bytes that were
 /// taken, over the records that the shelf has seen at the end. At most 2^30 bytes are taken. Bytes that
 /// were read past a BYE are dropped. What a peer doesn't tell of its bytes is left open.
-pub fn serve_session<H: Shelf, P: Peer>(
+pub fn serve_session<R: Threads + Wait + Sync, H: Shelf, P: Peer, G: Gate + Sync>(
     alloc: Global,
+    rt: &R,
     session: &mut Session,
     shelf: &mut H,
     peer: &mut P,
+    gate: &G,
 ) -> SessionEnd
     // What was written answers the items that were read. What is seen begins with what was seen, and so many
     // records were published as there were accepted LOADs.
@@ -88,7 +91,7 @@ pub fn serve_session<H: Shelf, P: Peer>(
     session.reader.restart();
     session.state.intake = Intake::Between;
     serve(
-        alloc,
+        &Means { alloc, rt, gate },
         &mut session.reader,
         &mut session.line,
         &mut session.state,

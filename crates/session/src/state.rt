@@ -4,7 +4,7 @@ ghost use Rattle.std.specs.Prelude.{length, IfOk, Ok, IsFalse, IsTrue, if◌then
 ghost use Rattle.std.specs.Arc.{arc_value};
 ghost use Rattle.std.specs.Option.{option_copied};
 ghost use Rattle.std.specs.declared.option.Option.{Option};
-ghost use Rattle.cut_model.specs.declared.network.TheConstants.{MOST_LINKS, MOST_ROUTERS};
+ghost use Rattle.job_queue.specs.declared.jobs.TheConstants.{MOST_WORKERS};
 ghost use Rattle.network_text.specs.Texts.{verdict_of};
 ghost use Rattle.query_lang.specs.Replies.{loaded_text, refused_text};
 ghost use Rattle.query_lang.specs.Requests.{IsOf, needs_record};
@@ -14,10 +14,10 @@ ghost use Rattle.session.specs.Taking.{HasRead, HasOpen, LineTaken, is_stale, li
 ghost use Rattle.tree_versions.specs.Records.{RecordView, record_at};
 ghost use Rattle.tree_versions.specs.Shelves.{Looks};
 
-use crate::build::build_tree;
 use crate::intake::{Intake, Taken};
-use cut_model::{MOST_LINKS, MOST_ROUTERS, NoMemory};
-use dinic_flow::FlowDesk;
+use crate::means::Means;
+use cut_model::NoMemory;
+use job_queue::MOST_WORKERS;
 use network_text::{Fed, Reader, Sheet, TextFault, TextKind};
 use path_minimum::PathRoom;
 use query_lang::{
@@ -25,9 +25,11 @@ use query_lang::{
 };
 use std::alloc::Global;
 use std::mem;
-use std::sync::Arc;
+use std::sync::{Arc, Wait};
+use std::thread::Threads;
 use text_forms::is_end;
 use tree_versions::{MOST_RECORDS, PublishFault, Record, Shelf};
+use worker_gate::{Gate, build_tree};
 
 /// The refusal of a network where the records are as many as can be kept.
 const SHELF_FULL: u32 = 20;
@@ -35,14 +37,15 @@ const SHELF_FULL: u32 = 20;
 /// The refusal of a text for which there was no memory.
 const OUT_OF_MEMORY: u32 = 90;
 
-/// The text that is open, and all room that replies and trees need.
+/// The text that is open, all room that replies need, and how many workers build a tree.
 #[derive(Drop)]
 pub struct State {
     pub intake: Intake,
     pub reply: ReplyBuffer,
     room: PathRoom,
-    desk: FlowDesk,
-    ghost desk_room: { desk.room ≡ record { routers = MOST_ROUTERS; links = MOST_LINKS } },
+    workers: u32,
+    ghost some: { 0 < workers },
+    ghost most: { workers ≤ MOST_WORKERS },
     ghost unended: { is_stale intake ≡ false },
 }
 
@@ -81,19 +84,21 @@ fn begin_text(alloc: Global) -> Intake
 }
 
 impl State {
-    /// The state between two items, with the room for one reply, for the longest path and for the flows
-    /// by which the tree of the largest network is built.
+    /// The state between two items, with the room for one reply and for the longest path, in which so many workers
+    /// build a tree.
     ///
     /// # Errors
     /// [`NoMemory`] where the memory of one of these can't be had.
-    pub fn make(alloc: Global) -> Result<State, NoMemory>
+    pub fn make(alloc: Global, workers: u32) -> Result<State, NoMemory>
+        requires some { 0 < workers }
+        requires most { workers ≤ MOST_WORKERS }
         ensures between { IfOk result (λ state. HasOpen state.intake None) }
     {
         Ok(State {
             intake: Intake::Between,
             reply: ReplyBuffer::make(alloc)?,
             room: PathRoom::make(alloc)?,
-            desk: FlowDesk::with_room(alloc, MOST_ROUTERS, MOST_LINKS as u32)?,
+            workers,
         })
     }
 
@@ -137,7 +142,12 @@ impl State {
     /// Takes a line, without its line feed; of a line of more than 512 bytes the first 513 suffice.
     /// A reply that it asks for is in `reply` afterwards. Memory is taken for the lines of a text and for
     /// its record alone.
-    pub fn take_line<H: Shelf>(&mut self, alloc: Global, shelf: &mut H, line: &[u8]) -> Taken
+    pub fn take_line<R: Threads + Wait + Sync, H: Shelf, G: Gate + Sync>(
+        &mut self,
+        means: &Means<'_, R, G>,
+        shelf: &mut H,
+        line: &[u8],
+    ) -> Taken
         requires few { lines_in self.old.intake < 2 ^ 31 }
         ensures taken { (open_text : Option (List (List ℕ))) → HasOpen self.old.intake open_text
             → LineTaken (H.alone shelf.old) (H.seen shelf.old) (H.published shelf.old) (H.seen shelf.new)
@@ -146,8 +156,8 @@ impl State {
         ensures alone { H.alone shelf.new ≡ H.alone shelf.old }
     {
         match mem::replace(&mut self.intake, Intake::Between) {
-            Intake::Between => self.take_request(alloc, shelf, line),
-            Intake::Text(reader) => self.take_text(alloc, shelf, reader, line),
+            Intake::Between => self.take_request(means.alloc, shelf, line),
+            Intake::Text(reader) => self.take_text(means, shelf, reader, line),
             Intake::Lost => self.take_lost(shelf, line),
         }
     }
@@ -205,9 +215,9 @@ impl State {
     }
 
     /// Takes a line of a text that is read.
-    fn take_text<H: Shelf>(
+    fn take_text<R: Threads + Wait + Sync, H: Shelf, G: Gate + Sync>(
         &mut self,
-        alloc: Global,
+        means: &Means<'_, R, G>,
         shelf: &mut H,
         mut reader: Reader,
         line: &[u8],
@@ -226,7 +236,7 @@ impl State {
                 Taken::Silent
             }
             Fed::Ended => {
-                self.end_text(alloc, shelf, reader);
+                self.end_text(means, shelf, reader);
                 self.intake = Intake::Between;
                 Taken::Reply
             }
@@ -252,7 +262,12 @@ impl State {
     }
 
     /// Answers a text whose END came.
-    fn end_text<H: Shelf>(&mut self, alloc: Global, shelf: &mut H, reader: Reader)
+    fn end_text<R: Threads + Wait + Sync, H: Shelf, G: Gate + Sync>(
+        &mut self,
+        means: &Means<'_, R, G>,
+        shelf: &mut H,
+        reader: Reader,
+    )
         requires few { reader.progress.lines < 2 ^ 31 }
         ensures loads { (text : List (List ℕ)) → HasRead reader.progress text
             → Loads (H.alone shelf.old) (H.seen shelf.old) (H.published shelf.old) (verdict_of text reader.ended)
@@ -260,7 +275,7 @@ impl State {
         ensures alone { H.alone shelf.new ≡ H.alone shelf.old }
     {
         match reader.close() {
-            Ok(sheet) => self.publish(alloc, shelf, sheet),
+            Ok(sheet) => self.publish(means, shelf, sheet),
             Err(fault) => self.refuse_text(shelf, fault),
         }
     }
@@ -282,23 +297,32 @@ impl State {
 
     /// Builds the tree of a sheet's network, and publishes both as a record, where there is room and
     /// memory for it.
-    fn publish<H: Shelf>(&mut self, alloc: Global, shelf: &mut H, sheet: Sheet)
+    fn publish<R: Threads + Wait + Sync, H: Shelf, G: Gate + Sync>(
+        &mut self,
+        means: &Means<'_, R, G>,
+        shelf: &mut H,
+        sheet: Sheet,
+    )
         ensures loads { Loads (H.alone shelf.old) (H.seen shelf.old) (H.published shelf.old) (Ok sheet) self.new.reply
             (H.seen shelf.new) (H.published shelf.new) }
         ensures alone { H.alone shelf.new ≡ H.alone shelf.old }
     {
-        match self.make_record(alloc, sheet) {
+        match self.make_record(means, sheet) {
             Ok(record) => self.publish_record(shelf, record),
             Err(NoMemory) => self.refuse_load(shelf, OUT_OF_MEMORY, None),
         }
     }
 
-    /// The record of a sheet, with the tree of its network.
-    fn make_record(&mut self, alloc: Global, sheet: Sheet) -> Result<Arc<Record>, NoMemory>
+    /// The record of a sheet, with the tree of its network, which the workers build.
+    fn make_record<R: Threads + Wait + Sync, G: Gate + Sync>(
+        &self,
+        means: &Means<'_, R, G>,
+        sheet: Sheet,
+    ) -> Result<Arc<Record>, NoMemory>
         ensures sheet { IfOk result (λ made. (arc_value made).sheet ≡ sheet) }
     {
-        let tree = build_tree(alloc, &mut self.desk, sheet.net())?;
-        Record::make(alloc, sheet, tree)
+        let tree = build_tree(means.alloc, means.rt, sheet.net(), self.workers, means.gate)?;
+        Record::make(means.alloc, sheet, tree)
     }
 
     /// Publishes a record, and makes the reply by its version.
