@@ -37,15 +37,7 @@ fn main(rt: HostRuntime) -> ExitCode {
         Ok(words) => {
             let mut source = StdSource::make(rt.reader());
             let mut sink = StdSink::make(io::writer(&rt));
-            run(
-                rt.alloc(),
-                &rt,
-                &words,
-                &mut source,
-                &mut sink,
-                &OpenGate,
-            )
-            .status
+            run(rt.alloc(), &rt, &words, &mut source, &mut sink, &OpenGate).status
         }
         Err(error) if error.kind() == ErrorKind::OutOfMemory => Status::NoMemory,
         // An argument that is no text is no word of a command.

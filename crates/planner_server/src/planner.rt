@@ -103,14 +103,7 @@ fn serve_both<R: Threads + Wait + Sync, S: Source, K: Sink, G: Gate + Sync>(
     ensures beside_source { S.beside_source source.new ≡ S.beside_source source.old }
     ensures beside_sink { K.beside_sink sink.new ≡ K.beside_sink sink.old }
 {
-    serve_session(
-        alloc,
-        rt,
-        session,
-        shelf,
-        &mut Pair { source, sink },
-        gate,
-    )
+    serve_session(alloc, rt, session, shelf, &mut Pair { source, sink }, gate)
 }
 
 /// The command `plan`: one session over the source and the sink.

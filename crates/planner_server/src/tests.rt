@@ -26,6 +26,7 @@ const FIRST_REPLIES: &[u8] = b"@1 LOADED routers 2 links 1\n@1 CUT 5 side a\n@1 
 
 /// A network of which two routers are to be cut from the third, and what it gets by whatever workers.
 const TWO_CUTS: &[u8] = b"LOAD\nlink a b 5\nlink b c 3\nEND\nCUT a b\n";
+
 const TWO_CUTS_REPLIES: &[u8] = b"@1 LOADED routers 3 links 2\n@1 CUT 5 side a\n";
 
 /// What a second session gets, over the record of the first.
