@@ -105,10 +105,11 @@ side_for-turned n up a b c r parting =
 -- CUT and CUT turned tell one cut.
 pub one_cut : (version : ℕ) (sheet : SheetView) (tree : TreeView) (a b : ℕ) (text other : List ℕ)
     → IsCutReport version sheet tree a b text → IsCutReport version sheet tree b a other
-    → TellOneCut version sheet text other
+    → TellOneCut version sheet tree text other
 one_cut version sheet tree a b text other p q = record {
   value = width_of tree p.child;
   side = p.side;
+  size = p.side_is.size;
   told = p.text_is;
   turned = q.text_is ∙ rw (child, sides) refl;
 }

@@ -1,5 +1,5 @@
 -- Laws of replies, over the texts that a client reads.
-use Rattle.std.specs.Prelude.{◌≡◌, ℕ, ◌≤◌, List, Bool, codes, map, not, reverse, Contains, true, false}
+use Rattle.std.specs.Prelude.{◌≡◌, ℕ, ◌≤◌, List, Bool, codes, length, map, not, reverse, Contains, true, false}
 use Rattle.cut_model.specs.Cuts.{cut_value}
 use Rattle.cut_model.specs.Terminals.{IsTerminal}
 use Rattle.network_text.specs.Sheets.{SheetView}
@@ -18,10 +18,11 @@ ReportIsOne =
     (version : ℕ) (sheet : SheetView) (tree : TreeView) (request : Request) (text other : List ℕ)
     → IsReport version sheet tree request text → IsReport version sheet tree request other → text ≡ other
 
--- Two replies to CUT tell one value, and each router on just one of the two sides.
-pub record TellOneCut (version : ℕ) (sheet : SheetView) (text other : List ℕ) : Type 0 where
+-- Two replies to CUT tell one value, and each router of the network on just one of the two sides.
+pub record TellOneCut (version : ℕ) (sheet : SheetView) (tree : TreeView) (text other : List ℕ) : Type 0 where
   pub value : ℕ
   pub side : List Bool
+  pub size : length side ≡ tree.net.routers
   pub told : text ≡ cut_text version (codes "CUT") value sheet.names side
   pub turned : other ≡ cut_text version (codes "CUT") value sheet.names (map not side)
 
@@ -30,7 +31,7 @@ abbrev pub CutTurnedIsOneCut : Type 0
 CutTurnedIsOneCut =
     (version : ℕ) (sheet : SheetView) (tree : TreeView) (a b : ℕ) (text other : List ℕ)
     → IsReport version sheet tree (Cut a b) text → IsReport version sheet tree (Cut b a) other
-    → TellOneCut version sheet text other
+    → TellOneCut version sheet tree text other
 
 -- Two replies to PATH have the same lines in opposite orders.
 pub record TellOneWay (version : ℕ) (sheet : SheetView) (tree : TreeView) (text other : List ℕ) : Type 0 where
