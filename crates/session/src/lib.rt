@@ -1,8 +1,8 @@
 //! One session of request lines, over a shelf of records and a peer.
 //!
-//! `serve_session` answers each item of what the peer sends from the records that the shelf has seen, and
-//! publishes the networks that it loads. Its contract says of every end what was written: the replies to the
-//! items that were read, over the records that the shelf has seen then.
+//! `serve_session` answers each item of what the peer sends from the records that the shelf has seen, and publishes
+//! the networks that it loads, with the trees that its workers build. Its contract says of every end what was written:
+//! the replies to the items that were read, over the records that the shelf has seen then.
 #![tactic(auto)]
 
 mod intake;
