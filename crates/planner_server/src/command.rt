@@ -10,7 +10,7 @@ use crate::options::{Given, OptionName, are_options};
 pub enum Command {
     /// One session over the source and the sink.
     Plan {
-        /// How many workers build the trees: 1 to 16.
+        /// How many workers at most build a tree: 1 to 16.
         workers: u32,
     },
 }

@@ -12,7 +12,7 @@ use text_forms::parse_number;
 /// The name of an option.
 #[derive(Clone, Copy)]
 pub enum OptionName {
-    /// How many workers build a tree: 1 to 16.
+    /// How many workers at most build a tree: 1 to 16.
     Workers,
 }
 

@@ -159,8 +159,8 @@ fn plan<R: Threads + Wait + Sync, S: Source, K: Sink, G: Gate + Sync>(
 /// Runs the command that the words name, over the source and the sink.
 ///
 /// It is `plan`, with the option `--workers`: a session that reads request lines to the end of the input or to BYE,
-/// and puts one reply for each item. So many workers build the tree of a network that is loaded, and the gate computes
-/// their cuts. The contract says for each status what was written: the replies to the whole items
+/// and puts one reply for each item. At most so many workers build the tree of a network that is loaded, and the
+/// gate computes their cuts. The contract says for each status what was written: the replies to the whole items
 /// of the bytes that were taken, over the records that are handed back. What a source or a sink doesn't tell of its
 /// bytes is left open.
 ///

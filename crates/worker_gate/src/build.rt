@@ -37,8 +37,8 @@ fn build_with<L: Crew + Send + Sync, R: Threads + Wait + Sync, G: Gate + Sync>(
     Ok(prepared.build(rt, gate))
 }
 
-/// The finished tree of a network, by so many workers, from 1 to 16, whose cuts a gate computes. All memory is taken
-/// before the first cut.
+/// The finished tree of a network, by at most so many workers, from 1 to 16, whose cuts a gate computes. All memory
+/// is taken before the first cut.
 ///
 /// # Errors
 /// [`NoMemory`] where that memory can't be had.

@@ -147,6 +147,7 @@ fn two_workers_meet_at_the_gate(rt: HostRuntime) -> Result<(), Fail> {
     };
     let tree = build_tree(rt.alloc(), &rt, &six_routers(rt.alloc())?, 2, &gate)?;
     assert_eq!(rt; gate.counts.failures.load(Ordering::SeqCst), 0);
+    assert!(rt; gate.counts.twos.load(Ordering::SeqCst) >= 1);
     assert_eq!(rt; cut_value(&rt, rt.alloc(), &tree, 0, 5)?, 6);
     Ok(())
 }
