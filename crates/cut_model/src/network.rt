@@ -18,7 +18,7 @@ pub const MOST_LINKS: usize = 8192;
 pub const MOST_CAPACITY: u64 = 1_000_000_000_000;
 
 /// The greatest value of a cut: that of all links that a network may have, each of the greatest capacity.
-pub const MOST_VALUE: u64 = 8_192_000_000_000_000;
+pub const MOST_VALUE: u64 = MOST_LINKS as u64 * MOST_CAPACITY;
 
 /// A link between two routers, which carries up to `cap` units in either direction. A link may join
 /// a router to itself, and several links may join the same two routers.
@@ -28,7 +28,7 @@ pub struct Link {
     pub a: u32,
     /// The end to which a positive flow goes.
     pub b: u32,
-    /// The capacity, at most 10^12 in a network.
+    /// The capacity, at most [`MOST_CAPACITY`] in a network.
     pub cap: u64,
 }
 
@@ -37,20 +37,21 @@ pub struct Link {
 pub enum NetFault {
     #[error("a network has at least one router")]
     NoRouter,
-    #[error("a network has at most 1024 routers")]
+    #[error("there are too many routers")]
     TooManyRouters,
-    #[error("a network has at most 8192 links")]
+    #[error("there are too many links")]
     TooManyLinks,
     /// The place in the list, counted from 0, of the first link with an end that is no router.
     #[error("link {0} has an end outside the network")]
     EndOutside(u32),
-    /// The place in the list, counted from 0, of the first link of more than 10^12.
+    /// The place in the list, counted from 0, of the first link of more than [`MOST_CAPACITY`].
     #[error("link {0} has too large a capacity")]
     CapTooLarge(u32),
 }
 
-/// A network within its limits: 1 to 1,024 routers, numbered from 0, and at most 8,192 links, each
-/// between two of the routers and of a capacity of at most 10^12. Contracts see a `Net`.
+/// A network within its limits: 1 to [`MOST_ROUTERS`] routers, numbered from 0, and at most
+/// [`MOST_LINKS`] links, each between two of the routers and of a capacity of at most [`MOST_CAPACITY`].
+/// Contracts see a `Net`.
 #[derive(Drop)]
 pub struct Network {
     routers: u32,
@@ -124,7 +125,7 @@ impl Network {
         }
     }
 
-    /// The number of routers, from 1 to 1,024.
+    /// The number of routers, from 1 to [`MOST_ROUTERS`].
     #[inline]
     pub fn routers(&self) -> u32
         ensures value { result ≡ self.now.routers }
@@ -135,7 +136,7 @@ impl Network {
         self.routers
     }
 
-    /// The links in their order, at most 8,192.
+    /// The links in their order, at most [`MOST_LINKS`].
     #[inline]
     pub fn links(&self) -> &[Link]
         ensures value { result.now ≡ self.now.links }
@@ -166,7 +167,7 @@ impl Network {
         router < self.routers
     }
 
-    /// How many terminals there are, from 1 to 1,024.
+    /// How many terminals there are, from 1 to [`MOST_ROUTERS`].
     #[inline]
     pub fn terminals(&self) -> u32
         ensures value { result ≡ terminal_count self.now }

@@ -49,7 +49,7 @@ impl Side {
         }
     }
 
-    /// How many routers there are, in the side or not, at most 1,024.
+    /// How many routers there are, in the side or not, at most [`MOST_ROUTERS`](crate::MOST_ROUTERS).
     #[inline]
     pub fn size(&self) -> u32
         ensures size { result ≡ length self.now }

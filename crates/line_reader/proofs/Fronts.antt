@@ -42,7 +42,8 @@ rest_of bytes from to k within =
     ∙ ap (take (to - (from + k))) (drop-drop k from bytes)
 
 -- what is buffered, round a line feed
-pub buffered_around : (bytes : List ℕ) (from to at : ℕ) → from + at < to → at < length (take (to - from) (drop from bytes))
+pub buffered_around : (bytes : List ℕ) (from to at : ℕ) → from + at < to
+    → at < length (take (to - from) (drop from bytes))
     → get_or (take (to - from) (drop from bytes)) at 0 ≡ 10
     → take (to - from) (drop from bytes)
     ≡ take at (take (to - from) (drop from bytes)) ++ 10 ∷ take (to - (from + (at + 1))) (drop (from + (at + 1)) bytes)

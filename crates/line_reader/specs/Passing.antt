@@ -25,8 +25,8 @@ pub record Passes (old : Buffered) (left : Option (List ℕ)) (new : Buffered) (
 
 -- a line was read: up to its line feed, up to the end of the input, or none at that end;
 -- or as many bytes were taken as ever are and the line goes on, or a read failed before that
-abbrev pub Reads : {E : Type 0} → Buffered → Option (List ℕ) → Buffered → Option (List ℕ) → Bool → List ℕ → Result Next E
-    → Type 0
+abbrev pub Reads : {E : Type 0} → Buffered → Option (List ℕ) → Buffered → Option (List ℕ) → Bool → List ℕ
+    → Result Next E → Type 0
 Reads old left new left' ended line (Ok Whole) =
     (l : List ℕ) × NoFeed l × Goes old left new left' (l ++ 10 ∷ []) × (line ≡ front_of l)
 Reads old left new left' ended line (Ok Last) =

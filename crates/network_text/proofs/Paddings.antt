@@ -18,7 +18,8 @@ pub IsPadded-written : (bytes : List ℕ) → IsTrue (is_name bytes)
 IsPadded-written bytes named =
     let short : length bytes ≤ MOST_NAME_BYTES = name-short bytes named in
     let behind : List ℕ = drop (length bytes) (replicate MOST_NAME_BYTES 0) in
-    let zeros : behind ≡ replicate (MOST_NAME_BYTES - length bytes) 0 = drop-replicate (length bytes) MOST_NAME_BYTES 0 in
+    let zeros : behind ≡ replicate (MOST_NAME_BYTES - length bytes) 0 =
+    drop-replicate (length bytes) MOST_NAME_BYTES 0 in
     let rest : length (replicate (MOST_NAME_BYTES - length bytes) 0) ≡ MOST_NAME_BYTES - length bytes =
     length-replicate {A = ℕ} (MOST_NAME_BYTES - length bytes) 0 in
     record {

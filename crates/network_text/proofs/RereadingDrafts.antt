@@ -39,7 +39,9 @@ with_link_among-fits : (names : List (List ℕ)) (links : List Link) (link : Lin
     → length names ≤ MOST_ROUTERS → length links < MOST_LINKS
     → with_link_among names links link ≡ Ok (draft_of names (links ++ link ∷ []))
 with_link_among-fits names links link cap routers few =
-    rw (le-ltb MOST_CAPACITY link.cap cap, le-ltb MOST_ROUTERS (length names) routers, lt-leb MOST_LINKS (length links) few) refl
+    let cap_fits = le-ltb MOST_CAPACITY link.cap cap in
+    let routers_fit = le-ltb MOST_ROUTERS (length names) routers in
+    rw (cap_fits, routers_fit, lt-leb MOST_LINKS (length links) few) refl
 
 -- The words of a link add the link.
 with_words-link : (names : List (List ℕ)) (links : List Link) (link : Link) → Differ names → AreNames names

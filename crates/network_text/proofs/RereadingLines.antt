@@ -62,7 +62,8 @@ length-link_front names link named is =
     let a_short = length-name a (name_at-is_name names link.a named is.a) in
     let b_short = length-name b (name_at-is_name names link.b named is.b) in
     let cap_short : length cap ≤ 13 = length-decimal-le 13 link.cap (omega arith) (omega arith) (omega arith) in
-    let all : length (codes "link" ++ 32 ∷ (a ++ 32 ∷ (b ++ 32 ∷ cap))) ≤ MOST_LINE_BYTES = simp length-append (omega arith) in all
+    let all : length (codes "link" ++ 32 ∷ (a ++ 32 ∷ (b ++ 32 ∷ cap))) ≤ MOST_LINE_BYTES =
+    simp length-append (omega arith) in all
 
 -- The line of a link has its words.
 pub link_front-words : (names : List (List ℕ)) (link : Link) → AreNames names → IsLink (length names) link

@@ -86,7 +86,8 @@ pub fn least_on_path<L: Ledger>(
     requires a { IsTerminal finished.now.tree.net a }
     requires b { IsTerminal finished.now.tree.net b }
     requires differ { a ≢ b }
-    ensures edge { IsLeastEdge finished.now.tree.net (up_of finished.now.tree) (width_of finished.now.tree) a b result.child }
+    ensures edge { IsLeastEdge finished.now.tree.net (up_of finished.now.tree) (width_of finished.now.tree)
+        a b result.child }
     ensures width { result.width ≡ width_of finished.now.tree result.child }
     ensures least { IsLeastCut finished.now.tree.net a b
         (side_for finished.now.tree.net.routers (up_of finished.now.tree) a result.child) result.width }
@@ -124,7 +125,8 @@ fn least_on_path_from<L: Ledger>(
     requires a { IsTerminal finished.now.tree.net a }
     requires b { IsTerminal finished.now.tree.net b }
     requires differ { a ≢ b }
-    ensures edge { IsLeastEdge finished.now.tree.net (up_of finished.now.tree) (width_of finished.now.tree) a b result.child }
+    ensures edge { IsLeastEdge finished.now.tree.net (up_of finished.now.tree) (width_of finished.now.tree)
+        a b result.child }
     ensures width { result.width ≡ width_of finished.now.tree result.child }
     ensures least { IsLeastCut finished.now.tree.net a b
         (side_for finished.now.tree.net.routers (up_of finished.now.tree) a result.child) result.width }
@@ -141,7 +143,8 @@ pub fn least_on_path_uncounted(ladder: &Ladder, finished: &Finished, a: u32, b: 
     requires a { IsTerminal finished.now.tree.net a }
     requires b { IsTerminal finished.now.tree.net b }
     requires differ { a ≢ b }
-    ensures edge { IsLeastEdge finished.now.tree.net (up_of finished.now.tree) (width_of finished.now.tree) a b result.child }
+    ensures edge { IsLeastEdge finished.now.tree.net (up_of finished.now.tree) (width_of finished.now.tree)
+        a b result.child }
     ensures width { result.width ≡ width_of finished.now.tree result.child }
     ensures least { IsLeastCut finished.now.tree.net a b
         (side_for finished.now.tree.net.routers (up_of finished.now.tree) a result.child) result.width }

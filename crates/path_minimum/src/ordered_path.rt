@@ -55,7 +55,8 @@ fn push_way(finished: &Finished, from: u32, to: u32, children: &mut Vec<u32>)
     requires from { IsTerminal finished.now.tree.net from }
     requires to { IsTerminal finished.now.tree.net to }
     requires above { below finished.now.tree.net.routers (up_of finished.now.tree) to from ≡ true }
-    requires room { vec_len children.old + depth_of finished.now.tree from ≤ MOST_ROUTERS + depth_of finished.now.tree to }
+    requires room { vec_len children.old + depth_of finished.now.tree from
+        ≤ MOST_ROUTERS + depth_of finished.now.tree to }
     requires capacity { MOST_ROUTERS ≤ vec_capacity children.old }
     ensures way { children.new.items ≡ children.old.items ++ way_between finished.now.tree from to }
     ensures capacity { vec_capacity children.new ≡ vec_capacity children.old }

@@ -5,8 +5,8 @@ use cut_model::{MOST_ROUTERS, NoMemory};
 use std::alloc::Global;
 use std::marker::Model;
 
-/// Room for the longest path, of fewer edges than [`MOST_ROUTERS`], and the path that `path` left there last, each edge by the router at its
-/// lower end. Contracts see the list of these routers.
+/// Room for the longest path, of fewer edges than [`MOST_ROUTERS`], and the path that `path` left there
+/// last, each edge by the router at its lower end. Contracts see the list of these routers.
 #[derive(Drop)]
 pub struct PathRoom {
     pub(crate) children: Vec<u32>,

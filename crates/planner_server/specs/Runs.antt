@@ -54,8 +54,8 @@ PlanEnds WriteFault run = AnswersFront run
 PlanEnds NoMemory run = Unit {0}
 PlanEnds BadWords run = ⊥
 
--- A session over the source and the sink. Where the source tells that it has fewer than 2^30 bytes left and nothing
--- fails, it is done, unless there was no memory to begin with. Where it gave 2^30 bytes without a BYE, and its end
+-- A session over the source and the sink. Where the source tells that it has fewer than MOST_BYTES left and nothing
+-- fails, it is done, unless there was no memory to begin with. Where it gave MOST_BYTES without a BYE, and its end
 -- wasn't met, they are too many, unless the sink failed.
 pub record PlanRan (status : Status) (run : RunView) : Type 0 where
   pub ends : PlanEnds status run

@@ -168,7 +168,7 @@ fn plan<R: Threads + Wait + Sync, S: Source, K: Sink, G: Gate + Sync>(
 /// what a text must be to be such a reply is `IsCutReport` (`query_lang/specs/Reports.antt`), and that
 /// is its field `least`. That to WEAKEST is so for the whole network (`IsWeakestReport`).
 ///
-/// `NoMemory` comes only before the first read. A run takes at most 2^30 bytes from its source, keeps
+/// `NoMemory` comes only before the first read. A run takes at most [`MOST_BYTES`] from its source, keeps
 /// at most [`MOST_RECORDS`](tree_versions::MOST_RECORDS) records of up to about 400 kB each, and some 820 kB beside;
 /// while a tree is built, it takes up to 450 kB for each worker.
 pub fn run<R: Threads + Wait + Sync, S: Source, K: Sink, G: Gate + Sync>(

@@ -59,7 +59,8 @@ length-line_piece None = omega arith
 length-line_piece (Some line) = simp length-append (omega (arith, digits_64 line))
 
 -- A refusal fits.
-pub length-refused_text : (version number : ℕ) (line : Option ℕ) → length (refused_text version number line) ≤ MOST_REPLY_BYTES
+pub length-refused_text : (version number : ℕ) (line : Option ℕ)
+    → length (refused_text version number line) ≤ MOST_REPLY_BYTES
 unfolding refused_text
 length-refused_text version number line =
     let piece = length-line_piece line in

@@ -122,7 +122,8 @@ one_cut version sheet tree a b text other p q = record {
     sides = ext_get_or false q.side (map not p.side) (q.side_is.size ∙ sym (length-map p.side not ∙ p.side_is.size))
         (λ r within.
         let low : r < tree.net.routers = omega (arith, within, q.side_is.size) in
-        let turned : side_for tree.net.routers (up_of tree) b q.child r ≡ not (side_for tree.net.routers (up_of tree) a p.child r) =
+        let turned : side_for tree.net.routers (up_of tree) b q.child r
+        ≡ not (side_for tree.net.routers (up_of tree) a p.child r) =
         rw child (side_for-turned tree.net.routers (up_of tree) a b p.child r p.least_edge.on_path.parting) in
         q.side_is.shows r low ∙ turned ∙ ap not (sym (p.side_is.shows r low))
         ∙ sym (get_or-map not p.side r false false (omega (arith, low, p.side_is.size))))

@@ -66,8 +66,8 @@ other_weakest (Some sheet) [] = chosen (nat_lt (terminal_count sheet.net) 2)
     chosen false = refl
 
 -- So does a word that needs a record, whatever stands behind it.
-other_of_one_word : (request : Request) (sheet : Option SheetView) (words : List (List ℕ)) → IsTrue (needs_record request)
-    → IsOther (of_one_word request sheet words)
+other_of_one_word : (request : Request) (sheet : Option SheetView) (words : List (List ℕ))
+    → IsTrue (needs_record request) → IsOther (of_one_word request sheet words)
 other_of_one_word request None [] needs = rw needs tt
 other_of_one_word request None (word ∷ words) needs = tt
 other_of_one_word request (Some sheet) [] needs = needs

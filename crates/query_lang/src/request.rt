@@ -3,7 +3,8 @@ ghost use Rattle.std.specs.Prelude.{◌≡◌, IfOk};
 ghost use Rattle.std.specs.Option.{option_copied};
 ghost use Rattle.network_text.specs.Sheets.{number_of};
 ghost use Rattle.query_lang.specs.Requests.{AreEnds, HasEnds, IsOf, ends_between, ends_of};
-ghost use Rattle.query_lang.specs.Requests.{fault_number, needs_record as needs, of_one_word, request_of, weakest_of, words_ask};
+ghost use Rattle.query_lang.specs.Requests.{fault_number, needs_record as needs, of_one_word, request_of};
+ghost use Rattle.query_lang.specs.Requests.{weakest_of, words_ask};
 ghost use Rattle.text_forms.specs.Words.{words_of};
 
 use network_text::Sheet;

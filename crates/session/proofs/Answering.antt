@@ -131,7 +131,7 @@ module _ (alone : Bool) (records more : List RecordView) (few : length (records 
     on = Answers-grown p.next items p.rest last p.others p.on;
   }
 
--- answers stay right while the list grows, since it never holds more than 256
+-- answers stay right while the list grows, since it never holds more than MOST_RECORDS
 pub Answers-grow : (alone : Bool) (records all : List RecordView) (seen : ℕ) (items : List Item) (text : List ℕ)
     (last loads : ℕ) → Grows records all → length all ≤ MOST_RECORDS → Answers alone records seen items text last loads
     → Answers alone all seen items text last loads

@@ -17,7 +17,7 @@ taken_fit (Some xs) (Some ys) all bytes is gone =
     let same : xs ≡ all = cc in
     omega (arith, ap length same, ap length gone, length-append bytes ys)
 
--- where fewer than 2^30 bytes were there and nothing failed, the session is done
+-- where fewer than MOST_BYTES were there and nothing failed, the session is done
 pub is_done : (end : SessionEnd) (left0 written0 left : Option (List ℕ)) (ended : Bool) (written : Option (List ℕ))
     (alone : Bool) (seen0 : List RecordView) (published0 : ℕ) (records : List RecordView) (published : ℕ) (all : List ℕ)
     → EndsAs end left0 written0 left ended written alone seen0 published0 records published

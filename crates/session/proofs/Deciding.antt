@@ -1,4 +1,4 @@
--- A session that was sent 2^30 bytes, and no BYE among them, ends so.
+-- A session that was sent MOST_BYTES, and no BYE among them, ends so.
 use Rattle.std.proofs.Common.{◌≡◌, ℕ, List, [], ◌∷◌, ◌++◌, length, Some, Bool, true, false, sym, ap, ◌∙◌}
 use Rattle.std.proofs.Common.{arith, subst, inl, inr, refl}
 use Rattle.std.proofs.lemmas.List.{append_cancel_right}
@@ -29,7 +29,7 @@ bye_behind (Ask line ∷ front) quiet = bye_behind front quiet
 bye_behind (Load text whole ∷ front) quiet = bye_behind front quiet
 bye_behind (Bye ∷ front) quiet = quiet
 
--- 2^30 bytes without a BYE, and no end, are too many
+-- MOST_BYTES without a BYE, and no end, are too many
 pub always_long : (end : SessionEnd) (told told2 written0 written : Option (List ℕ)) (ended : Bool)
     (alone : Bool) (seen0 : List RecordView) (published0 : ℕ) (records : List RecordView) (published : ℕ)
     (taken rest : List ℕ)

@@ -103,7 +103,7 @@ module _ (alone : Bool) (seen0 : List RecordView) (published0 : ℕ)
       Consumes-spent left0 after_left buffer2.bytes (s.bytes ++ line) passes.spent
       (Consumes-trans left0 (ahead buffer left) (ahead buffer2 after_left) s.bytes line s.gone passes.goes.gone)
 
-  -- behind a whole line no more than 2^30 bytes were taken
+  -- behind a whole line no more than MOST_BYTES were taken
   line_fits : (line : List ℕ) → Goes buffer left buffer2 after_left (line ++ 10 ∷ [])
       → length ((s.bytes ++ (line ++ 10 ∷ [])) ++ buffer2.bytes) ≤ MOST_BYTES
   line_fits line goes = omega (

@@ -48,7 +48,7 @@ module _ (alone : Bool) (old new : List RecordView) (published published2 : ℕ)
         (λ seen keeps. inr (inr (record { keeps = keeps; told = told; counted = refl })));
   }
 
--- no record can be added to 256
+-- no record can be added to MOST_RECORDS
 pub full_loads : (alone : Bool) (old new : List RecordView) (published published2 : ℕ) (reply : List ℕ)
     (sheet : SheetView)
     → IsFull alone old new → published2 ≡ published → reply ≡ refused_text MOST_RECORDS 20 None

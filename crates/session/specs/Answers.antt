@@ -54,7 +54,7 @@ pub record IsLoaded (alone : Bool) (records : List RecordView) (seen : ℕ) (she
   pub same : alone ≡ true → next ≡ seen + 1
   pub counted : loads ≡ 1
 
--- No record can be added to 256.
+-- No record can be added to MOST_RECORDS.
 pub record IsRefusedFull (alone : Bool) (records : List RecordView) (seen : ℕ) (reply : List ℕ) (next loads : ℕ) :
     Type 0 where
   pub full : length records ≡ MOST_RECORDS
@@ -70,8 +70,8 @@ pub record IsTold (alone : Bool) (records : List RecordView) (seen next loads : 
   pub told : told_so
   pub counted : loads ≡ 0
 
--- A network with this verdict was loaded: a faulty text is refused; a sheet is published, or refused where 256 records
--- stand; want of memory may come in place of each of these.
+-- A network with this verdict was loaded: a faulty text is refused; a sheet is published, or refused where the shelf is
+-- full; want of memory may come in place of each of these.
 abbrev pub LoadStep : Bool → List RecordView → ℕ → Result SheetView TextFault → List ℕ → ℕ → ℕ → Type 0
 LoadStep alone records seen (Err fault) reply next loads =
     IsTold alone records seen next loads (IsTextRefusal next fault reply)

@@ -26,7 +26,7 @@ pub record SoFar (alone : Bool) (seen0 : List RecordView) (published0 : ℕ) (le
   pub wrote : Appends written0 written text
 
 -- The text that was written answers the whole items of the bytes that were taken, as `Serving` says, and P holds of
--- these bytes and items. No more than 2^30 bytes were taken.
+-- these bytes and items. No more than MOST_BYTES were taken.
 pub record Ends (P : List ℕ → List Item → Type 0) (left0 written0 left : Option (List ℕ)) (ended : Bool)
     (written : Option (List ℕ)) (Serving : List Item → List ℕ → Type 0) : Type 0 where
   pub bytes : List ℕ
@@ -41,7 +41,7 @@ pub record Ends (P : List ℕ → List Item → Type 0) (left0 written0 left : O
 abbrev pub IsComplete : Bool → Option (List ℕ) → List ℕ → List Item → Type 0
 IsComplete ended left bytes items = ((front : List Item) × (items ≡ front ++ Bye ∷ [])) ⊎ IsOver ended left
 
--- 2^30 bytes were taken, the end wasn't met, and no BYE is among the items
+-- MOST_BYTES were taken, the end wasn't met, and no BYE is among the items
 abbrev pub IsTooLong : Bool → List ℕ → List Item → Type 0
 IsTooLong ended bytes items = (length bytes ≡ MOST_BYTES) × (ended ≡ false) × NoBye items
 
@@ -50,7 +50,7 @@ abbrev pub IsCutShort : Bool → List ℕ → List Item → Type 0
 IsCutShort ended bytes items = (length bytes < MOST_BYTES) × (ended ≡ false) × NoBye items
 
 -- The text that was written answers a front of the whole items of the bytes that were taken, but for a part of the
--- reply to the last of them. No more than 2^30 bytes were taken.
+-- reply to the last of them. No more than MOST_BYTES were taken.
 pub record Breaks (left0 written0 left : Option (List ℕ)) (ended : Bool) (written : Option (List ℕ)) (alone : Bool)
     (seen0 : List RecordView) (published0 : ℕ) (records : List RecordView) (published : ℕ) : Type 0 where
   pub bytes : List ℕ

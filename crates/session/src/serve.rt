@@ -33,7 +33,7 @@ pub enum SessionEnd {
     ReadFault,
     /// The peer failed to write.
     WriteFault,
-    /// 2^30 bytes were taken.
+    /// MOST_BYTES were taken.
     TooLong,
 }
 

@@ -47,11 +47,12 @@ impl Session {
 }
 
 /// Serves one peer: it reads request lines to the end of the input or to BYE, and puts one reply for each
-/// item. The tree of a network that it loads is built by the session's workers, whose cuts the gate computes. Whatever the session was used for before, it begins without bytes and with the records that the
-/// shelf has seen.
+/// item. The tree of a network that it loads is built by the session's workers, whose cuts the gate
+/// computes. Whatever the session was used for before, it begins without bytes and with the records that
+/// the shelf has seen.
 ///
 /// The contract says for each end what was written: the replies to the whole items of the bytes that were
-/// taken, over the records that the shelf has seen at the end. At most 2^30 bytes are taken. Bytes that
+/// taken, over the records that the shelf has seen at the end. At most [`MOST_BYTES`] are taken. Bytes that
 /// were read past a BYE are dropped. What a peer doesn't tell of its bytes is left open.
 pub fn serve_session<R: Threads + Wait + Sync, H: Shelf, P: Peer, G: Gate + Sync>(
     alloc: Global,
@@ -68,7 +69,7 @@ pub fn serve_session<R: Threads + Wait + Sync, H: Shelf, P: Peer, G: Gate + Sync
         (H.seen shelf.new) (H.published shelf.new) }
     ensures alone { H.alone shelf.new ≡ H.alone shelf.old }
 
-    // Where the peer tells that it has fewer than 2^30 bytes left, and doesn't fail, the session is done.
+    // Where the peer tells that it has fewer than MOST_BYTES left, and doesn't fail, the session is done.
     ensures completes { (bytes : List ℕ) → P.left peer.old ≡ Some bytes → length bytes < MOST_BYTES
         → (Rose (P.read_faults peer.old) (P.read_faults peer.new) → ⊥)
         → (Rose (P.write_faults peer.old) (P.write_faults peer.new) → ⊥) → result ≡ SessionEnd.Done }

@@ -139,7 +139,7 @@ impl State {
         }
     }
 
-    /// Takes a line, without its line feed; of a line of more than 512 bytes the first 513 suffice.
+    /// Takes a line, without its line feed; of a line of more than MOST_LINE_BYTES one byte more suffices.
     /// A reply that it asks for is in `reply` afterwards. Memory is taken for the lines of a text and for
     /// its record alone.
     pub fn take_line<R: Threads + Wait + Sync, H: Shelf, G: Gate + Sync>(

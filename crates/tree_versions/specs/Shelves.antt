@@ -26,6 +26,7 @@ pub record IsFull (alone : Bool) (old new : List RecordView) : Type 0 where
 
 -- What publishing a record did to the list, and to the number of records that were published through the shelf.
 abbrev pub Publishes : Bool → List RecordView → List RecordView → RecordView → ℕ → ℕ → Result ℕ PublishFault → Type 0
-Publishes alone old new added before after (Ok version) = IsPublishedAt alone old new added version × (after ≡ before + 1)
+Publishes alone old new added before after (Ok version) =
+    IsPublishedAt alone old new added version × (after ≡ before + 1)
 Publishes alone old new added before after (Err Full) = IsFull alone old new × (after ≡ before)
 Publishes alone old new added before after (Err NoMemory) = Looks alone old new × (after ≡ before)

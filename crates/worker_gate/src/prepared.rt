@@ -119,9 +119,9 @@ fn make_workers<L: Crew>(
     Ok(workers)
 }
 
-/// Makes all that a build by at most so many workers needs, from 1 to 16, and takes all its memory: the tables, the queue, and
-/// for each worker a desk of the network's own size. A small network gets fewer workers: no more than there are routers
-/// to be committed, and no more than are worth starting.
+/// Makes all that a build by at most so many workers needs, from 1 to 16, and takes all its memory: the
+/// tables, the queue, and for each worker a desk of the network's own size. A small network gets fewer
+/// workers: no more than there are routers to be committed, and no more than are worth starting.
 ///
 /// # Errors
 /// [`NoMemory`] where that memory can't be had.

@@ -9,16 +9,16 @@ pub overflow_add-steps : goal.overflow_add-steps
 overflow_add-steps c =
     let step : depth_of c.args.finished.now.tree c.loop-at.at
     ≡ suc (depth_of c.args.finished.now.tree (up_of c.args.finished.now.tree c.loop-at.at)) =
-    depth-unknown c.args.finished.now.tree c.args.known.now c.args.depths.now c.loop-at.at c.requires.tree c.requires.known
-    c.loop-at.invariant.within (sym c.has.ensures ∙ c.loop-at-test.true) in
+    depth-unknown c.args.finished.now.tree c.args.known.now c.args.depths.now c.loop-at.at c.requires.tree
+    c.requires.known c.loop-at.invariant.within (sym c.has.ensures ∙ c.loop-at-test.true) in
     omega (arith, depth_of-lt c.args.finished.now.tree c.requires.tree c.args.router)
 
 pub loop-at-smaller : goal.loop-at-smaller
 loop-at-smaller c =
     let step : depth_of c.args.finished.now.tree c.loop-at.at
     ≡ suc (depth_of c.args.finished.now.tree (up_of c.args.finished.now.tree c.loop-at.at)) =
-    depth-unknown c.args.finished.now.tree c.args.known.now c.args.depths.now c.loop-at.at c.requires.tree c.requires.known
-    c.loop-at.invariant.within (sym c.has.ensures ∙ c.loop-at-test.true) in
+    depth-unknown c.args.finished.now.tree c.args.known.now c.args.depths.now c.loop-at.at c.requires.tree
+    c.requires.known c.loop-at.invariant.within (sym c.has.ensures ∙ c.loop-at-test.true) in
     rw c.up-at.ensures.value (omega arith)
 
 pub loop-at-preserved : goal.loop-at-preserved

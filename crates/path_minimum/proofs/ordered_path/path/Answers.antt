@@ -9,8 +9,9 @@ use Rattle.path_minimum.proofs.ordered_path.path.Goals as goal
 
 pub push_way-requires-clause-above : goal.push_way-requires-clause-above
 push_way-requires-clause-above c =
-    meeting-above c.args.finished.now.tree.net (tree_in c.args.finished.now.tree c.meeting_of-meeting.ensures.tree) c.args.a
-    c.args.b c.meeting_of-meeting.result c.meeting_of-meeting.ensures.meeting
+    let tree = c.args.finished.now.tree in
+    meeting-above tree.net (tree_in tree c.meeting_of-meeting.ensures.tree) c.args.a c.args.b
+    c.meeting_of-meeting.result c.meeting_of-meeting.ensures.meeting
 
 pub push_way-requires-clause-room : goal.push_way-requires-clause-room
 push_way-requires-clause-room c =
@@ -18,9 +19,10 @@ push_way-requires-clause-room c =
 
 pub push_way-requires-2-clause-above : goal.push_way-requires-2-clause-above
 push_way-requires-2-clause-above c =
-    meeting-above c.args.finished.now.tree.net (tree_in c.args.finished.now.tree c.meeting_of-meeting.ensures.tree) c.args.b
-    c.args.a c.meeting_of-meeting.result
-    (meeting-turned c.args.finished.now.tree.net (up_of c.args.finished.now.tree) c.args.a c.args.b c.meeting_of-meeting.result
+    let tree = c.args.finished.now.tree in
+    meeting-above tree.net (tree_in tree c.meeting_of-meeting.ensures.tree) c.args.b c.args.a
+    c.meeting_of-meeting.result
+    (meeting-turned tree.net (up_of tree) c.args.a c.args.b c.meeting_of-meeting.result
     c.meeting_of-meeting.ensures.meeting)
 
 pub push_way-requires-2-clause-room : goal.push_way-requires-2-clause-room
