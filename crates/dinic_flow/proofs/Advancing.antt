@@ -12,7 +12,7 @@ use Rattle.residual_graph.specs.Places.{begin_of, place_at}
 use Rattle.residual_graph.specs.View.{ResidualView}
 use Rattle.residual_graph.proofs.ByPlace.{arc-between}
 use Rattle.dinic_flow.specs.Levels.{IsLevelled}
-use Rattle.dinic_flow.specs.Phases.{IsSpent, IsBlocked, IsPhase, Sends}
+use Rattle.dinic_flow.specs.Phases.{Moment, moment_of, Aim, IsSpent, IsBlocked, IsPhase, Sends}
 
 -- A cursor that is put elsewhere is there, and every other one where it was.
 cursor-moved : (cursor : List ℕ) (router v r : ℕ) → router < length cursor → get_or cursor router 0 ≤ v →
@@ -34,47 +34,53 @@ cursor-moved cursor router v r within later = elim (cases_eq r router) [
 ]
 
 -- A router that was spent stays so, if no cursor goes past a router's arcs.
-blocked-moved : (view : ResidualView) (threshold t : ℕ) (label old new : List ℕ) (arc : ℕ) →
-    (IsSpent view.net old (head_of view.net arc) → IsSpent view.net new (head_of view.net arc)) →
-    IsBlocked view threshold t label old arc → IsBlocked view threshold t label new arc
-blocked-moved view threshold t label old new arc stays was leads = elim (was leads) [
+blocked-moved : (aim : Aim) (now : Moment) (new : List ℕ) (arc : ℕ) →
+    (IsSpent now.view.net now.cursor (head_of now.view.net arc) →
+    IsSpent now.view.net new (head_of now.view.net arc)) →
+    IsBlocked aim now arc → IsBlocked aim (moment_of now.view new) arc
+blocked-moved aim now new arc stays was leads = elim (was leads) [
   | inl closed ↦ inl closed
   | inr spent ↦ inr (spent.0, stays spent.1)
 ]
 
+-- The moment after a router's cursor was put at a place.
+abbrev pub with_cursor : Moment → ℕ → ℕ → Moment
+with_cursor now router at = moment_of now.view (set now.cursor router at)
+
 -- A router's cursor may move over arcs that are blocked.
-pub phase-moved : (view : ResidualView) (threshold t : ℕ) (label cursor : List ℕ) (router v : ℕ) →
-    IsPhase view threshold t label cursor → router < view.net.routers → router ≢ t →
-    get_or cursor router 0 ≤ v → v ≤ begin_of view.net (router + 1) →
-    ((at : ℕ) → get_or cursor router 0 ≤ at → at < v →
-    IsBlocked view threshold t label cursor (place_at view.net at).arc) →
-    IsPhase view threshold t label (set cursor router v)
-phase-moved view threshold t label cursor router v old small apart later most passed =
+pub phase-moved : (aim : Aim) (now : Moment) (router v : ℕ) →
+    IsPhase aim now → router < now.view.net.routers → router ≢ aim.t →
+    get_or now.cursor router 0 ≤ v → v ≤ begin_of now.view.net (router + 1) →
+    ((at : ℕ) → get_or now.cursor router 0 ≤ at → at < v → IsBlocked aim now (place_at now.view.net at).arc) →
+    IsPhase aim (with_cursor now router v)
+phase-moved aim now router v old small apart later most passed =
+    let net : Net = now.view.net in
+    let cursor : List ℕ = now.cursor in
     let within : router < length cursor = omega (arith, old.come.size) in
     let same = get_or-set_same cursor router v 0 within in
     let other : (r : ℕ) → r ≢ router → get_or (set cursor router v) r 0 ≡ get_or cursor r 0 =
     λ r ne. get_or-set_other cursor router r v 0 ne in
-    let stays : (r : ℕ) → IsSpent view.net cursor r → IsSpent view.net (set cursor router v) r =
+    let stays : (r : ℕ) → IsSpent net cursor r → IsSpent net (set cursor router v) r =
     λ r spent. elim (cases_eq r router) [
       | inr ne ↦ other r ne ∙ spent
-      | inl is ↦ subst (λ (x : ℕ). IsSpent view.net (set cursor router v) x) (sym is)
-          (omega (arith, same, later, most, subst (λ (x : ℕ). IsSpent view.net cursor x) is spent))
+      | inl is ↦ subst (λ (x : ℕ). IsSpent net (set cursor router v) x) (sym is)
+          (omega (arith, same, later, most, subst (λ (x : ℕ). IsSpent net cursor x) is spent))
     ] in
     record {
       sound = old.sound;
       levelled = old.levelled;
       come = record {
         size = length-set cursor router v ∙ old.come.size;
-        fresh = other t (λ e. apart (sym e)) ∙ old.come.fresh;
+        fresh = other aim.t (λ e. apart (sym e)) ∙ old.come.fresh;
         above = λ r below. omega (arith, (cursor-moved cursor router v r within later).0, old.come.above r below);
         below = λ r below. elim (cases_eq r router) [
           | inr ne ↦ omega (arith, other r ne, old.come.below r below)
-          | inl is ↦ subst (λ (x : ℕ). get_or (set cursor router v) x 0 ≤ begin_of view.net (x + 1)) (sym is)
+          | inl is ↦ subst (λ (x : ℕ). get_or (set cursor router v) x 0 ≤ begin_of net (x + 1)) (sym is)
               (omega (arith, same, most))
         ];
         blocked = λ r at below low high.
-            let arc : ℕ = (place_at view.net at).arc in
-            blocked-moved view threshold t label cursor (set cursor router v) arc (stays (head_of view.net arc))
+            let arc : ℕ = (place_at net at).arc in
+            blocked-moved aim now (set cursor router v) arc (stays (head_of net arc))
             (elim (cases_lt at (get_or cursor r 0)) [
               | inl before ↦ old.come.blocked r at below low before
               | inr behind ↦ elim (cases_eq r router) [
@@ -90,16 +96,16 @@ phase-moved view threshold t label cursor router v old small apart later most pa
     }
 
 -- A router that moves its own cursor on has sent what it had sent.
-pub sends-moved : (before after : ResidualView) (old mid label : List ℕ) (router t x v : ℕ) →
-    Sends before after old mid label router t x → router < length mid → get_or mid router 0 ≤ v →
-    Sends before after old (set mid router v) label router t x
-sends-moved before after old mid label router t x v sent within later = record {
+pub sends-moved : (aim : Aim) (before after : Moment) (router amount v : ℕ) →
+    Sends aim before after router amount → router < length after.cursor → get_or after.cursor router 0 ≤ v →
+    Sends aim before (with_cursor after router v) router amount
+sends-moved aim before after router amount v sent within later = record {
   same = sent.same;
   sends = sent.sends;
   falls = sent.falls;
   spares = sent.spares;
-  moves = λ r. omega (arith, sent.moves r, (cursor-moved mid router v r within later).0);
-  keeps = λ r low apart. (cursor-moved mid router v r within later).1 apart ∙ sent.keeps r low apart;
+  moves = λ r. omega (arith, sent.moves r, (cursor-moved after.cursor router v r within later).0);
+  keeps = λ r low apart. (cursor-moved after.cursor router v r within later).1 apart ∙ sent.keeps r low apart;
 }
 
 -- A cursor that is put elsewhere changes the sum of all cursors by as much.
@@ -130,26 +136,25 @@ twin-within : (net : Net) (arc : ℕ) → arc < arc_count net → twin arc < arc
 twin-within net arc within = omega (arith, (twin-ends net arc).1)
 
 -- A spent router that an arc goes to isn't t, whose cursor is at its first place.
-pub unspent : (view : ResidualView) (threshold t : ℕ) (label cursor : List ℕ) (arc : ℕ) →
-    IsPhase view threshold t label cursor → arc < arc_count view.net →
-    IsSpent view.net cursor (head_of view.net arc) → head_of view.net arc ≢ t
-unspent view threshold t label cursor arc phase within spent is =
-    let net : Net = view.net in
+pub unspent : (aim : Aim) (now : Moment) (arc : ℕ) → IsPhase aim now → arc < arc_count now.view.net →
+    IsSpent now.view.net now.cursor (head_of now.view.net arc) → head_of now.view.net arc ≢ aim.t
+unspent aim now arc phase within spent is =
+    let net : Net = now.view.net in
     let other : ℕ = twin arc in
     let back = twin-ends net arc in
     let inside : other < arc_count net = twin-within net arc within in
     let (at, low, high, _) = arc-between net phase.sound.limits other inside in
-    let tail : tail_of net other ≡ t = back.0 ∙ is in
-    let from : begin_of net t ≤ at = subst (λ (r : ℕ). begin_of net r ≤ at) tail low in
-    let to : at < begin_of net (t + 1) = subst (λ (r : ℕ). at < begin_of net (r + 1)) tail high in
-    let end : get_or cursor t 0 ≡ begin_of net (t + 1) = subst (λ (r : ℕ). IsSpent net cursor r) is spent in
+    let tail : tail_of net other ≡ aim.t = back.0 ∙ is in
+    let from : begin_of net aim.t ≤ at = subst (λ (r : ℕ). begin_of net r ≤ at) tail low in
+    let to : at < begin_of net (aim.t + 1) = subst (λ (r : ℕ). at < begin_of net (r + 1)) tail high in
+    let end : get_or now.cursor aim.t 0 ≡ begin_of net (aim.t + 1) =
+    subst (λ (r : ℕ). IsSpent net now.cursor r) is spent in
     omega (arith, phase.come.fresh)
 
 -- Each router but t is below t.
-pub below-top : (view : ResidualView) (threshold t : ℕ) (label : List ℕ) (r : ℕ) →
-    IsLevelled view threshold t label → r ≢ t →
-    get_or label r 0 < get_or label t 0
-below-top view threshold t label r levelled apart = elim (cases_lt (get_or label r 0) (get_or label t 0)) [
+pub below-top : (aim : Aim) (view : ResidualView) (r : ℕ) →
+    IsLevelled view aim.threshold aim.t aim.label → r ≢ aim.t → get_or aim.label r 0 < get_or aim.label aim.t 0
+below-top aim view r levelled apart = elim (cases_lt (get_or aim.label r 0) (get_or aim.label aim.t 0)) [
   | inl less ↦ less
   | inr high ↦ absurd (apart (levelled.only r (omega (arith, levelled.most r))))
 ]

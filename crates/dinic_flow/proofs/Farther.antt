@@ -13,7 +13,7 @@ use Rattle.residual_graph.specs.View.{ResidualView, IsSound}
 use Rattle.residual_graph.proofs.ByPlace.{arc-between, begin-zero, begin-next, begin-end}
 use Rattle.residual_graph.proofs.Listed.{head_below}
 use Rattle.dinic_flow.specs.Levels.{OpenArc, Walk, IsFartherThan, height, IsLevelled}
-use Rattle.dinic_flow.specs.Phases.{Rises, IsSpent, IsBlocked, IsPhase}
+use Rattle.dinic_flow.specs.Phases.{Moment, Aim, Rises, IsSpent, IsBlocked, IsPhase, Tally, Costs}
 use Rattle.dinic_flow.proofs.Relays.{height-label}
 
 -- An open arc rises by one level at most.
@@ -71,67 +71,70 @@ closed-open : (x : ℤ) (threshold : ℕ) → x <ℤ pos threshold → pos thres
 closed-open x threshold below above = omega (arith, ints, below, above)
 
 -- From a spent router no walk to t rises by one level at each arc.
-stuck : (view : ResidualView) (threshold t : ℕ) (label cursor : List ℕ)
-    (phase : IsPhase view threshold t label cursor) →
-    0 < get_or label t 0 → (arcs u : ℕ) → Walk view threshold arcs u t →
-    get_or label t 0 ≡ height phase.levelled.mid label u + arcs → u ≢ t → u < view.net.routers →
-    IsSpent view.net cursor u → ⊥
-stuck view threshold t label cursor phase some zero u is steep apart small spent = apart is
-stuck view threshold t label cursor phase some (suc arcs) u (w, arc, rest) steep apart small spent =
+stuck : (aim : Aim) (now : Moment) (phase : IsPhase aim now) → 0 < get_or aim.label aim.t 0 →
+    (arcs u : ℕ) → Walk now.view aim.threshold arcs u aim.t →
+    get_or aim.label aim.t 0 ≡ height phase.levelled.mid aim.label u + arcs → u ≢ aim.t → u < now.view.net.routers →
+    IsSpent now.view.net now.cursor u → ⊥
+stuck aim now phase some zero u is steep apart small spent = apart is
+stuck aim now phase some (suc arcs) u (w, arc, rest) steep apart small spent =
+    let view : ResidualView = now.view in
+    let label : List ℕ = aim.label in
     let mid : ℕ = phase.levelled.mid in
-    let above = climbs view threshold t label phase.levelled some arcs w rest in
-    let below = arc-rises view threshold t u w label phase.levelled arc in
-    let steep_on : get_or label t 0 ≡ height mid label w + arcs = omega (arith, above, below, steep) in
+    let above = climbs view aim.threshold aim.t label phase.levelled some arcs w rest in
+    let below = arc-rises view aim.threshold aim.t u w label phase.levelled arc in
+    let steep_on : get_or label aim.t 0 ≡ height mid label w + arcs = omega (arith, above, below, steep) in
     let low = height-label mid label u
-    (labelled view threshold t label phase.levelled some (suc arcs) u (w, arc, rest) steep) in
-    let high = height-label mid label w (labelled view threshold t label phase.levelled some arcs w rest steep_on) in
+    (labelled view aim.threshold aim.t label phase.levelled some (suc arcs) u (w, arc, rest) steep) in
+    let high = height-label mid label w
+    (labelled view aim.threshold aim.t label phase.levelled some arcs w rest steep_on) in
     let on : get_or label w 0 ≡ get_or label u 0 + 1 = omega (arith, low, high, steep, steep_on) in
     let leads : Rises view.net label arc.arc = rw (arc.tail, arc.head) on in
     let (at, from, to, is) = arc-between view.net phase.sound.limits arc.arc arc.within in
     let start : begin_of view.net u ≤ at = rw arc.tail at from in
-    let passed : at < get_or cursor u 0 = omega (arith, rw arc.tail at to, spent) in
-    let was : IsBlocked view threshold t label cursor (place_at view.net at).arc =
-    phase.come.blocked u at small start passed in
+    let passed : at < get_or now.cursor u 0 = omega (arith, rw arc.tail at to, spent) in
+    let was : IsBlocked aim now (place_at view.net at).arc = phase.come.blocked u at small start passed in
     let is_arc : (place_at view.net at).arc ≡ arc.arc = ap (λ (p : Place). p.arc) is in
-    elim (subst (λ (x : ℕ). IsBlocked view threshold t label cursor x) is_arc was leads) [
-      | inl closed ↦ closed-open _ threshold closed arc.is_open
+    elim (subst (λ (x : ℕ). IsBlocked aim now x) is_arc was leads) [
+      | inl closed ↦ closed-open _ aim.threshold closed arc.is_open
       | inr other ↦
-          let next : (w ≢ t) × IsSpent view.net cursor w = rw arc.head at other in
+          let next : (w ≢ aim.t) × IsSpent view.net now.cursor w = rw arc.head at other in
           let inside : w < view.net.routers =
           rw arc.head at (head_below view.net phase.sound.limits arc.arc arc.within) in
-          stuck view threshold t label cursor phase some arcs w rest steep_on next.0 inside next.1
+          stuck aim now phase some arcs w rest steep_on next.0 inside next.1
     ]
 
 -- Once s is spent, each walk from s to t has more arcs than there are levels above s.
-pub farther : (view : ResidualView) (threshold s t : ℕ) (label cursor : List ℕ) →
-    IsPhase view threshold t label cursor →
-    get_or label s 0 ≡ 1 → s ≢ t → s < view.net.routers → IsSpent view.net cursor s →
-    IsFartherThan view threshold s t (get_or label t 0 - 1)
-farther view threshold s t label cursor phase start apart small spent arcs walk =
-    let some : 0 < get_or label t 0 = omega (arith, phase.levelled.most s, start) in
+pub farther : (aim : Aim) (now : Moment) (s : ℕ) → IsPhase aim now →
+    get_or aim.label s 0 ≡ 1 → s ≢ aim.t → s < now.view.net.routers → IsSpent now.view.net now.cursor s →
+    IsFartherThan now.view aim.threshold s aim.t (get_or aim.label aim.t 0 - 1)
+farther aim now s phase start apart small spent arcs walk =
+    let label : List ℕ = aim.label in
+    let some : 0 < get_or label aim.t 0 = omega (arith, phase.levelled.most s, start) in
     let low = height-label phase.levelled.mid label s (omega arith) in
-    let above = climbs view threshold t label phase.levelled some arcs s walk in
-    elim (cases_lt (get_or label t 0 - 1) arcs) [
+    let above = climbs now.view aim.threshold aim.t label phase.levelled some arcs s walk in
+    elim (cases_lt (get_or label aim.t 0 - 1) arcs) [
       | inl less ↦ less
       | inr short ↦
-          let steep : get_or label t 0 ≡ height phase.levelled.mid label s + arcs = omega (arith, above, short, low) in
-          absurd (stuck view threshold t label cursor phase some arcs s walk steep apart small spent)
+          let steep : get_or label aim.t 0 ≡ height phase.levelled.mid label s + arcs =
+          omega (arith, above, short, low) in
+          absurd (stuck aim now phase some arcs s walk steep apart small spent)
     ]
 
 -- ---- where a phase begins, and what all of it costs
 
 -- Cursors at each router's first place are a state of a phase.
-pub phase-begun : (view : ResidualView) (threshold t : ℕ) (label cursor : List ℕ) → IsSound view →
-    IsLevelled view threshold t label → t < view.net.routers → length cursor ≡ view.net.routers →
-    ((r : ℕ) → r < view.net.routers → get_or cursor r 0 ≡ begin_of view.net r) → IsPhase view threshold t label cursor
-phase-begun view threshold t label cursor sound levelled small size begun = record {
+pub phase-begun : (aim : Aim) (now : Moment) → IsSound now.view →
+    IsLevelled now.view aim.threshold aim.t aim.label → aim.t < now.view.net.routers →
+    length now.cursor ≡ now.view.net.routers →
+    ((r : ℕ) → r < now.view.net.routers → get_or now.cursor r 0 ≡ begin_of now.view.net r) → IsPhase aim now
+phase-begun aim now sound levelled small size begun = record {
   sound = sound;
   levelled = levelled;
   come = record {
     size = size;
-    fresh = begun t small;
+    fresh = begun aim.t small;
     above = λ r below. omega (arith, begun r below);
-    below = λ r below. omega (arith, begun r below, begin-next view.net r);
+    below = λ r below. omega (arith, begun r below, begin-next now.view.net r);
     blocked = λ r at below low high. absurd (omega (arith, begun r below, high));
   };
 }
@@ -160,23 +163,23 @@ sums-step f (x ∷ xs) (y ∷ ys) from long low high =
     omega (arith, sum_by-cons (λ n. n) x xs, sum_by-cons (λ n. n) y ys, rw end at rest)
 
 -- All cursors together move by the number of arcs at most.
-pub cursors-move : (view : ResidualView) (threshold t : ℕ) (label old new : List ℕ) → IsSound view →
-    IsPhase view threshold t label new → length old ≡ view.net.routers →
-    ((r : ℕ) → r < view.net.routers → get_or old r 0 ≡ begin_of view.net r) → sum new ≤ sum old + arc_count view.net
-cursors-move view threshold t label old new sound phase size begun =
-    let net : Net = view.net in
-    let all = sums-step (begin_of net) old new 0 (omega (arith, size, phase.come.size))
+pub cursors-move : (aim : Aim) (now : Moment) (old : List ℕ) →
+    IsPhase aim now → length old ≡ now.view.net.routers →
+    ((r : ℕ) → r < now.view.net.routers → get_or old r 0 ≡ begin_of now.view.net r) →
+    sum now.cursor ≤ sum old + arc_count now.view.net
+cursors-move aim now old phase size begun =
+    let net : Net = now.view.net in
+    let all = sums-step (begin_of net) old now.cursor 0 (omega (arith, size, phase.come.size))
     (λ i within. let same : 0 + i ≡ i = omega arith in rw same (omega (arith, begun i (omega (arith, size, within)))))
     (λ i within.
     let same : 0 + i + 1 ≡ i + 1 = omega arith in
     rw same (phase.come.below i (omega (arith, size, within)))) in
     let end : 0 + length old ≡ net.routers = omega (arith, size) in
-    omega (arith, rw end at all, begin-zero net, begin-end net sound.limits)
+    omega (arith, rw end at all, begin-zero net, begin-end net phase.sound.limits)
 
 -- So a phase costs two steps for each arc and once more, at each level.
-pub phase-pays : (levels old new arcs before after : ℕ) → new ≤ old + arcs →
-    after + 2 * (levels * old) ≤ before + 2 * (levels * new) + 2 * levels →
-    after ≤ before + 2 * (levels * (arcs + 1))
-phase-pays levels old new arcs before after moved paid =
-    let more : levels * new ≤ levels * (old + arcs) = mul-le-mul_left levels moved in
+pub phase-pays : (levels arcs : ℕ) (before after : Tally) → after.places ≤ before.places + arcs →
+    Costs levels before after → after.steps ≤ before.steps + 2 * (levels * (arcs + 1))
+phase-pays levels arcs before after moved paid =
+    let more : levels * after.places ≤ levels * (before.places + arcs) = mul-le-mul_left levels moved in
     omega (arith, paid, more)

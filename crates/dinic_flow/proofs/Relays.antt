@@ -1,5 +1,5 @@
 -- What is sent on within a phase, arc by arc and part by part.
-use Rattle.std.proofs.Common.{◌≡◌, ◌≢◌, ◌⊎◌, ℕ, ◌+◌, ◌/◌, ◌<◌, ◌≤◌, min, List, length, get_or}
+use Rattle.std.proofs.Common.{◌≡◌, ◌≢◌, ◌⊎◌, ℕ, ◌+◌, ◌/◌, ◌<◌, ◌≤◌, List, length, get_or}
 use Rattle.std.proofs.Common.{sym, ◌∙◌, ap, subst, arith, refl, inl, inr}
 use Rattle.std.specs.Prelude.{◌==◌, ℤ, pos, ◌+ℤ◌, ◌-ℤ◌, ◌≤ℤ◌, ◌<ℤ◌}
 use Rattle.std.proofs.lemmas.Int.{ints}
@@ -14,7 +14,7 @@ use Rattle.residual_graph.proofs.ByPlace.{between-is}
 use Rattle.residual_graph.proofs.Listed.{head_below}
 use Rattle.dinic_flow.specs.Levels.{IsOpen, height, IsLevelled}
 use Rattle.dinic_flow.specs.Sending.{only_at}
-use Rattle.dinic_flow.specs.Phases.{Rises, IsSpent, IsBlocked, IsPhase, Sends}
+use Rattle.dinic_flow.specs.Phases.{Moment, moment_of, Aim, Rises, IsSpent, IsBlocked, IsPhase, Sends}
 use Rattle.dinic_flow.proofs.Pushes.{caps-length, out-pushed, left-pushed, left-apart, IsTwin, twins}
 
 -- What is at most a second number is at most what that is at most.
@@ -110,10 +110,11 @@ open-before before after label threshold arc amount other push is_open =
     ]
 
 -- Levels stay ones after a push along an arc that leads on.
-levelled-push : (before after : ResidualView) (threshold t : ℕ) (label : List ℕ) (arc amount : ℕ) →
-    IsPush before after label arc amount → 0 < get_or label (tail_of before.net arc) 0 →
-    IsLevelled before threshold t label → IsLevelled after threshold t label
-levelled-push before after threshold t label arc amount push some old =
+levelled-push : (aim : Aim) (before after : ResidualView) (arc amount : ℕ) →
+    IsPush before after aim.label arc amount → 0 < get_or aim.label (tail_of before.net arc) 0 →
+    IsLevelled before aim.threshold aim.t aim.label → IsLevelled after aim.threshold aim.t aim.label
+levelled-push aim before after arc amount push some old =
+    let label : List ℕ = aim.label in
     let net : after.net ≡ before.net = push-net before after label arc amount push in
     let low = height-label old.mid label (tail_of before.net arc) some in
     let high = height-label old.mid label (head_of before.net arc) (omega (arith, push.leads)) in
@@ -123,11 +124,12 @@ levelled-push before after threshold t label arc amount push some old =
       few = rw net old.few;
       most = old.most;
       only = old.only;
-      rises = λ other within is_open. elim (open-before before after label threshold arc amount other push is_open) [
-        | inl was ↦ rw net (old.rises other (rw net at within) was)
-        | inr twin ↦ rw (net, twin.head, twin.tail) (omega (arith, low, high, push.leads))
-      ];
-      stays = λ other within is_open none. elim (open-before before after label threshold arc amount other push
+      rises = λ other within is_open. elim (open-before before after label aim.threshold arc amount other push
+          is_open) [
+            | inl was ↦ rw net (old.rises other (rw net at within) was)
+            | inr twin ↦ rw (net, twin.head, twin.tail) (omega (arith, low, high, push.leads))
+          ];
+      stays = λ other within is_open none. elim (open-before before after label aim.threshold arc amount other push
           is_open) [
             | inl was ↦ rw net (old.stays other (rw net at within) was (rw net at none))
             | inr twin ↦ absurd (omega (arith, rw (net, twin.tail) at none, push.leads))
@@ -135,13 +137,14 @@ levelled-push before after threshold t label arc amount push some old =
     }
 
 -- What is blocked stays blocked after a push along an arc that leads on.
-blocked-push : (before after : ResidualView) (threshold t : ℕ) (label cursor : List ℕ) (arc amount other : ℕ) →
-    IsPush before after label arc amount → IsBlocked before threshold t label cursor other →
-    IsBlocked after threshold t label cursor other
-blocked-push before after threshold t label cursor arc amount other push old leads =
-    let net : after.net ≡ before.net = push-net before after label arc amount push in
-    let led : Rises before.net label other = rw net at leads in
-    elim (push-falls before after label arc amount other push) [
+blocked-push : (aim : Aim) (now : Moment) (after : ResidualView) (arc amount other : ℕ) →
+    IsPush now.view after aim.label arc amount → IsBlocked aim now other →
+    IsBlocked aim (moment_of after now.cursor) other
+blocked-push aim now after arc amount other push old leads =
+    let before : ResidualView = now.view in
+    let net : after.net ≡ before.net = push-net before after aim.label arc amount push in
+    let led : Rises before.net aim.label other = rw net at leads in
+    elim (push-falls before after aim.label arc amount other push) [
       | inr twin ↦ absurd (omega (arith, rw (twin.head, twin.tail) at led, push.leads))
       | inl falls ↦ elim (old led) [
         | inl closed ↦ inl (lt-le _ _ _ falls closed)
@@ -153,24 +156,25 @@ blocked-push before after threshold t label cursor arc amount other push old lea
     lt-le x y z first second = omega (arith, ints, first, second)
 
 -- A state of a phase stays one after a push along an arc that leads on.
-pub phase-push : (before after : ResidualView) (threshold t : ℕ) (label cursor : List ℕ) (arc amount : ℕ) →
-    IsPush before after label arc amount → 0 < get_or label (tail_of before.net arc) 0 → IsSound after →
-    IsPhase before threshold t label cursor → IsPhase after threshold t label cursor
-phase-push before after threshold t label cursor arc amount push some sound old =
-    let net : after.net ≡ before.net = push-net before after label arc amount push in
+pub phase-push : (aim : Aim) (now : Moment) (after : ResidualView) (arc amount : ℕ) →
+    IsPush now.view after aim.label arc amount → 0 < get_or aim.label (tail_of now.view.net arc) 0 →
+    IsSound after → IsPhase aim now → IsPhase aim (moment_of after now.cursor)
+phase-push aim now after arc amount push some sound old =
+    let before : ResidualView = now.view in
+    let net : after.net ≡ before.net = push-net before after aim.label arc amount push in
     record {
       sound = sound;
-      levelled = levelled-push before after threshold t label arc amount push some old.levelled;
+      levelled = levelled-push aim before after arc amount push some old.levelled;
       come = record {
         size = rw net old.come.size;
         fresh = rw net old.come.fresh;
         above = λ r small. rw net (old.come.above r (rw net at small));
         below = λ r small. rw net (old.come.below r (rw net at small));
         blocked = λ r at small low high.
-            let was : IsBlocked before threshold t label cursor (place_at before.net at).arc =
+            let was : IsBlocked aim now (place_at before.net at).arc =
             old.come.blocked r at (rw net at small) (rw net at low) high in
-            subst (λ (n : Net). IsBlocked after threshold t label cursor (place_at n at).arc) (sym net)
-            (blocked-push before after threshold t label cursor arc amount (place_at before.net at).arc push was);
+            subst (λ (n : Net). IsBlocked aim (moment_of after now.cursor) (place_at n at).arc) (sym net)
+            (blocked-push aim now after arc amount (place_at before.net at).arc push was);
       };
     }
 
@@ -188,36 +192,39 @@ relayed : (o m n a b c : ℤ) → m ≡ ((o +ℤ b) -ℤ c) → n ≡ ((m +ℤ a
 relayed o m n a b c first second = omega (arith, ints, first, second)
 
 -- What the head of an arc sends to t, its tail sends once it was pushed along the arc.
-pub sends-over : (before between after : ResidualView) (old new label : List ℕ) (arc t amount : ℕ) →
-    Sends before between old new label (head_of before.net arc) t amount →
-    IsPush between after label arc amount → arc < arc_count before.net →
-    Sends before after old new label (tail_of before.net arc) t amount
-sends-over before between after old new label arc t amount sent push within =
-    let net : between.net ≡ before.net = ap (λ (v : ResidualView). v.net) sent.same in
-    let flow : after.flow ≡ pushed between.flow arc amount = push-flow between after label arc amount push in
-    let leads : Rises before.net label arc = rw net at push.leads in
-    let even : length between.flow ≡ length before.net.links = rw net at push.even in
-    let last : after ≡ record between { flow = after.flow } =
-    push.pushes ∙ ap (λ (f : List ℤ). let w : ResidualView = record between { flow = f } in w) (sym flow) in
+pub sends-over : (aim : Aim) (before between : Moment) (after : ResidualView) (arc amount : ℕ) →
+    Sends aim before between (head_of before.view.net arc) amount →
+    IsPush between.view after aim.label arc amount → arc < arc_count before.view.net →
+    Sends aim before (moment_of after between.cursor) (tail_of before.view.net arc) amount
+sends-over aim before between after arc amount sent push within =
+    let start : ResidualView = before.view in
+    let mid : ResidualView = between.view in
+    let label : List ℕ = aim.label in
+    let net : mid.net ≡ start.net = ap (λ (v : ResidualView). v.net) sent.same in
+    let flow : after.flow ≡ pushed mid.flow arc amount = push-flow mid after label arc amount push in
+    let leads : Rises start.net label arc = rw net at push.leads in
+    let even : length mid.flow ≡ length start.net.links = rw net at push.even in
+    let last : after ≡ record mid { flow = after.flow } =
+    push.pushes ∙ ap (λ (f : List ℤ). let w : ResidualView = record mid { flow = f } in w) (sym flow) in
     record {
-      same = same-twice before between after sent.same last;
+      same = same-twice start mid after sent.same last;
       sends = λ r.
-          let over : out r before.net.links after.flow ≡ _ =
-          ap (out r before.net.links) flow ∙ out-pushed before.net between.flow arc amount within even r in
-          relayed (out r before.net.links before.flow) (out r before.net.links between.flow)
-          (out r before.net.links after.flow) (only_at (tail_of before.net arc) r amount)
-          (only_at (head_of before.net arc) r amount) (only_at t r amount) (sent.sends r) over;
-      falls = λ other inside on. elim (push-falls between after label arc amount other push) [
+          let over : out r start.net.links after.flow ≡ _ =
+          ap (out r start.net.links) flow ∙ out-pushed start.net mid.flow arc amount within even r in
+          relayed (out r start.net.links start.flow) (out r start.net.links mid.flow)
+          (out r start.net.links after.flow) (only_at (tail_of start.net arc) r amount)
+          (only_at (head_of start.net arc) r amount) (only_at aim.t r amount) (sent.sends r) over;
+      falls = λ other inside on. elim (push-falls mid after label arc amount other push) [
         | inl falls ↦ le-twice _ _ _ falls (sent.falls other inside on)
         | inr twin ↦
-            let back : IsTwin before.net other arc = rw net at twin in
+            let back : IsTwin start.net other arc = rw net at twin in
             absurd (omega (arith, rw (back.head, back.tail) at on, leads))
       ];
-      spares = λ other inside low. elim (relation before.net other arc) [
-        | Same e ↦ absurd (omega (arith, ap (λ (x : ℕ). get_or label (tail_of before.net x) 0) e, low))
+      spares = λ other inside low. elim (relation start.net other arc) [
+        | Same e ↦ absurd (omega (arith, ap (λ (x : ℕ). get_or label (tail_of start.net x) 0) e, low))
         | Twin twin ↦ absurd (omega (arith, rw twin.tail at low, leads))
         | Other apart ↦
-            push-apart between after label arc amount other push apart
+            push-apart mid after label arc amount other push apart
             ∙ sent.spares other inside (omega (arith, leads, low))
       ];
       moves = sent.moves;
@@ -227,9 +234,9 @@ sends-over before between after old new label arc t amount sent push within =
     }
 
 -- Two amounts one behind another.
-both : (o m n a b c d e f : ℤ) → m ≡ ((o +ℤ a) -ℤ b) → n ≡ ((m +ℤ c) -ℤ d) → e ≡ (a +ℤ c) → f ≡ (b +ℤ d) →
-    n ≡ ((o +ℤ e) -ℤ f)
-both o m n a b c d e f first second sum_e sum_f = omega (arith, ints, first, second, sum_e, sum_f)
+both : (o m n a b c d : ℤ) → m ≡ ((o +ℤ a) -ℤ b) → n ≡ ((m +ℤ c) -ℤ d) →
+    n ≡ ((o +ℤ (a +ℤ c)) -ℤ (b +ℤ d))
+both o m n a b c d first second = omega (arith, ints, first, second)
 
 -- They are one amount, at the router where they are.
 only_at-sum : (router r x y : ℕ) → only_at router r (x + y) ≡ (only_at router r x +ℤ only_at router r y)
@@ -239,21 +246,21 @@ only_at-sum router r x y = elim (cases_Bool (router == r)) [
 ]
 
 -- What a router sends first and then is sent together.
-pub sends-both : (before between after : ResidualView) (old mid new label : List ℕ) (router t x y : ℕ) →
-    Sends before between old mid label router t x → Sends between after mid new label router t y →
-    Sends before after old new label router t (x + y)
-sends-both before between after old mid new label router t x y first second =
-    let net : between.net ≡ before.net = ap (λ (v : ResidualView). v.net) first.same in
+pub sends-both : (aim : Aim) (before between after : Moment) (router x y : ℕ) →
+    Sends aim before between router x → Sends aim between after router y → Sends aim before after router (x + y)
+sends-both aim before between after router x y first second =
+    let start : ResidualView = before.view in
+    let net : between.view.net ≡ start.net = ap (λ (v : ResidualView). v.net) first.same in
     record {
-      same = same-twice before between after first.same second.same;
+      same = same-twice start between.view after.view first.same second.same;
       sends = λ r.
-          let later : out r before.net.links after.flow
-          ≡ ((out r before.net.links between.flow +ℤ only_at router r y) -ℤ only_at t r y) =
+          let later : out r start.net.links after.view.flow
+          ≡ ((out r start.net.links between.view.flow +ℤ only_at router r y) -ℤ only_at aim.t r y) =
           rw net at (second.sends r) in
-          both (out r before.net.links before.flow) (out r before.net.links between.flow)
-          (out r before.net.links after.flow) (only_at router r x) (only_at t r x) (only_at router r y) (only_at t r y)
-          (only_at router r (x + y)) (only_at t r (x + y)) (first.sends r) later
-          (only_at-sum router r x y) (only_at-sum t r x y);
+          rw (only_at-sum router r x y, only_at-sum aim.t r x y)
+          (both (out r start.net.links start.flow) (out r start.net.links between.view.flow)
+          (out r start.net.links after.view.flow) (only_at router r x) (only_at aim.t r x) (only_at router r y)
+          (only_at aim.t r y) (first.sends r) later);
       falls = λ arc within leads.
           le-twice _ _ _ (second.falls arc (rw net within) (rw net leads)) (first.falls arc within leads);
       spares = λ arc within low. second.spares arc (rw net within) (rw net low) ∙ first.spares arc within low;
@@ -262,19 +269,19 @@ sends-both before between after old mid new label router t x y first second =
     }
 
 -- An arc that is blocked stays blocked, whatever is sent.
-pub blocked-later : (before after : ResidualView) (old new label : List ℕ) (threshold router t x arc : ℕ) →
-    Sends before after old new label router t x → IsPhase after threshold t label new → arc < arc_count before.net →
-    IsBlocked before threshold t label old arc → IsBlocked after threshold t label new arc
-blocked-later before after old new label threshold router t x arc sent phase within was leads =
-    let net : after.net ≡ before.net = ap (λ (v : ResidualView). v.net) sent.same in
-    let led : Rises before.net label arc = rw net at leads in
+pub blocked-later : (aim : Aim) (before after : Moment) (router amount arc : ℕ) →
+    Sends aim before after router amount → IsPhase aim after → arc < arc_count before.view.net →
+    IsBlocked aim before arc → IsBlocked aim after arc
+blocked-later aim before after router amount arc sent phase within was leads =
+    let now : Net = after.view.net in
+    let net : now ≡ before.view.net = ap (λ (v : ResidualView). v.net) sent.same in
+    let led : Rises before.view.net aim.label arc = rw net at leads in
     elim (was led) [
       | inl closed ↦ inl (lt-le _ _ _ (sent.falls arc within led) closed)
       | inr spent ↦
-          let head : ℕ = head_of after.net arc in
-          let small : head < after.net.routers =
-          head_below after.net phase.sound.limits arc (rw net within) in
-          let other : (head ≢ t) × IsSpent after.net old head = rw net spent in
+          let head : ℕ = head_of now arc in
+          let small : head < now.routers = head_below now phase.sound.limits arc (rw net within) in
+          let other : (head ≢ aim.t) × IsSpent now before.cursor head = rw net spent in
           inr (other.0, omega (arith, other.1, sent.moves head, phase.come.below head small))
     ]
   where
@@ -289,45 +296,47 @@ unfolding place_at
 place_at-head net at = refl
 
 -- The head of an arc that leads on has sent an amount to t, which is then pushed along the arc.
-pub record IsOver (before between after : ResidualView) (old new label : List ℕ) (arc t amount : ℕ) : Type 0 where
-  pub within : arc < arc_count before.net
-  pub same : between.net ≡ before.net
-  pub sent : Sends before between old new label (head_of before.net arc) t amount
-  pub push : IsPush between after label arc amount
+pub record IsOver (aim : Aim) (before between : Moment) (after : ResidualView) (arc amount : ℕ) : Type 0 where
+  pub within : arc < arc_count before.view.net
+  pub same : between.view.net ≡ before.view.net
+  pub sent : Sends aim before between (head_of before.view.net arc) amount
+  pub push : IsPush between.view after aim.label arc amount
 
 -- What is done at a place whose arc leads on is that.
-pub is_over : (before between after : ResidualView) (old new label : List ℕ) (at threshold t amount next : ℕ)
-    (place : Place) → place ≡ place_at before.net at → place.arc < arc_count before.net →
-    get_or label place.head 0 ≡ next → next ≡ get_or label (tail_of before.net (place_at before.net at).arc) 0 + 1 →
-    Sends before between old new label place.head t amount → IsPhase between threshold t label new →
-    after ≡ record between { flow = pushed between.flow place.arc amount } →
-    IsOver before between after old new label (place_at before.net at).arc t amount
-is_over before between after old new label at threshold t amount next place is inside at_head at_tail sent phase
-    pushes =
-    let arc : ℕ = (place_at before.net at).arc in
+pub is_over : (aim : Aim) (before between : Moment) (after : ResidualView) (place : Place) (at amount : ℕ) →
+    place ≡ place_at before.view.net at → place.arc < arc_count before.view.net →
+    get_or aim.label place.head 0
+    ≡ get_or aim.label (tail_of before.view.net (place_at before.view.net at).arc) 0 + 1 →
+    Sends aim before between place.head amount → IsPhase aim between →
+    after ≡ record between.view { flow = pushed between.view.flow place.arc amount } →
+    IsOver aim before between after (place_at before.view.net at).arc amount
+is_over aim before between after place at amount is inside on sent phase pushes =
+    let net : Net = before.view.net in
+    let mid : ResidualView = between.view in
+    let arc : ℕ = (place_at net at).arc in
     let is_arc : place.arc ≡ arc = ap (λ (p : Place). p.arc) is in
-    let is_head : place.head ≡ head_of before.net arc = ap (λ (p : Place). p.head) is ∙ place_at-head before.net at in
-    let within : arc < arc_count before.net = subst (λ (x : ℕ). x < arc_count before.net) is_arc inside in
-    let leads : Rises before.net label arc = sym (ap (λ (r : ℕ). get_or label r 0) is_head) ∙ at_head ∙ at_tail in
-    let same : between.net ≡ before.net = ap (λ (v : ResidualView). v.net) sent.same in
+    let is_head : place.head ≡ head_of net arc = ap (λ (p : Place). p.head) is ∙ place_at-head net at in
+    let within : arc < arc_count net = subst (λ (x : ℕ). x < arc_count net) is_arc inside in
+    let leads : Rises net aim.label arc = sym (ap (λ (r : ℕ). get_or aim.label r 0) is_head) ∙ on in
+    let same : mid.net ≡ net = ap (λ (v : ResidualView). v.net) sent.same in
     record {
       within = within;
       same = same;
-      sent = subst (λ (r : ℕ). Sends before between old new label r t amount) is_head sent;
+      sent = subst (λ (r : ℕ). Sends aim before between r amount) is_head sent;
       push = record {
         within = rw same within;
-        even = caps-length between.net.links between.flow phase.sound.within;
+        even = caps-length mid.net.links mid.flow phase.sound.within;
         leads = rw same leads;
-        pushes = subst (λ (x : ℕ). after ≡ record between { flow = pushed between.flow x amount }) is_arc pushes;
+        pushes = subst (λ (x : ℕ). after ≡ record mid { flow = pushed mid.flow x amount }) is_arc pushes;
       };
     }
 
 -- The arc's tail has sent the amount.
-pub over-sends : (before between after : ResidualView) (old new label : List ℕ) (arc t amount : ℕ) →
-    IsOver before between after old new label arc t amount →
-    Sends before after old new label (tail_of before.net arc) t amount
-over-sends before between after old new label arc t amount over =
-    sends-over before between after old new label arc t amount over.sent over.push over.within
+pub over-sends : (aim : Aim) (before between : Moment) (after : ResidualView) (arc amount : ℕ) →
+    IsOver aim before between after arc amount →
+    Sends aim before (moment_of after between.cursor) (tail_of before.view.net arc) amount
+over-sends aim before between after arc amount over =
+    sends-over aim before between after arc amount over.sent over.push over.within
 
 -- An arc of which all was taken is closed.
 closes : (x y z : ℤ) (left amount threshold : ℕ) → pos left ≡ x → y ≡ x → z ≡ (y -ℤ pos amount) → amount ≡ left →
@@ -336,37 +345,36 @@ closes x y z left amount threshold first second third whole some = omega
     (arith, ints, first, second, third, whole, some)
 
 -- The arc is blocked then, if less than the limit was sent: it is closed, or its head is spent.
-pub over-blocked : (before between after : ResidualView) (old new label : List ℕ)
-    (arc threshold t left most limit amount : ℕ) → IsOver before between after old new label arc t amount →
-    0 < threshold →
-    pos left ≡ left_on before arc → most ≡ min left limit → amount ≤ most →
-    (amount < most → (head_of before.net arc ≢ t) × IsSpent between.net new (head_of before.net arc)) →
-    amount < limit → IsBlocked after threshold t label new arc
-over-blocked before between after old new label arc threshold t left most limit amount over some is most_is below spent
-    short leads =
-    let same : after.net ≡ between.net = push-net between after label arc amount over.push in
-    let led : Rises before.net label arc = rw over.same at over.push.leads in
-    let spared : left_on between arc ≡ left_on before arc = over.sent.spares arc over.within (omega (arith, led)) in
-    elim (cases_lt amount most) [
-      | inl less ↦ inr (rw (same, over.same) (rw over.same at (spent less)))
+pub over-blocked : (aim : Aim) (before between : Moment) (after : ResidualView) (arc amount left limit : ℕ) →
+    IsOver aim before between after arc amount → 0 < aim.threshold →
+    pos left ≡ left_on before.view arc → amount ≤ left →
+    (amount < left → amount < limit → (head_of before.view.net arc ≢ aim.t)
+    × IsSpent between.view.net between.cursor (head_of before.view.net arc)) →
+    amount < limit → IsBlocked aim (moment_of after between.cursor) arc
+over-blocked aim before between after arc amount left limit over some is below spent short leads =
+    let start : ResidualView = before.view in
+    let mid : ResidualView = between.view in
+    let same : after.net ≡ mid.net = push-net mid after aim.label arc amount over.push in
+    let led : Rises start.net aim.label arc = rw over.same at over.push.leads in
+    let spared : left_on mid arc ≡ left_on start arc = over.sent.spares arc over.within (omega (arith, led)) in
+    elim (cases_lt amount left) [
+      | inl less ↦ inr (rw (same, over.same) (rw over.same at (spent less short)))
       | inr all ↦
-          let whole : amount ≡ left = omega (arith, most_is, below, all, short) in
-          inl (closes (left_on before arc) (left_on between arc) (left_on after arc) left amount threshold is spared
-          (push-own between after label arc amount over.push) whole some)
+          inl (closes (left_on start arc) (left_on mid arc) (left_on after arc) left amount aim.threshold is spared
+          (push-own mid after aim.label arc amount over.push) (omega (arith, below, all)) some)
     ]
 
 -- The arcs that a router has passed stay blocked, whatever is sent.
-pub passed-later : (before after : ResidualView) (old new label : List ℕ) (threshold router t x from to : ℕ) →
-    Sends before after old new label router t x → IsPhase after threshold t label new →
-    IsInLimits before.net → router < before.net.routers →
-    begin_of before.net router ≤ from → to ≤ begin_of before.net (router + 1) →
-    ((at : ℕ) → from ≤ at → at < to → IsBlocked before threshold t label old (place_at before.net at).arc) →
-    (at : ℕ) → from ≤ at → at < to → IsBlocked after threshold t label new (place_at after.net at).arc
-passed-later before after old new label threshold router t x from to sent phase limits small start end passed at
-    low high =
-    let net : after.net ≡ before.net = ap (λ (v : ResidualView). v.net) sent.same in
-    let leaves : IsPlaceOf before.net router (place_at before.net at) =
-    between-is before.net limits router at small (omega arith) (omega arith) in
-    subst (λ (n : Net). IsBlocked after threshold t label new (place_at n at).arc) (sym net)
-    (blocked-later before after old new label threshold router t x (place_at before.net at).arc sent phase leaves.arc
-    (passed at low high))
+pub passed-later : (aim : Aim) (before after : Moment) (router amount from to : ℕ) →
+    Sends aim before after router amount → IsPhase aim after →
+    IsInLimits before.view.net → router < before.view.net.routers →
+    begin_of before.view.net router ≤ from → to ≤ begin_of before.view.net (router + 1) →
+    ((at : ℕ) → from ≤ at → at < to → IsBlocked aim before (place_at before.view.net at).arc) →
+    (at : ℕ) → from ≤ at → at < to → IsBlocked aim after (place_at after.view.net at).arc
+passed-later aim before after router amount from to sent phase limits small start end passed at low high =
+    let was : Net = before.view.net in
+    let net : after.view.net ≡ was = ap (λ (v : ResidualView). v.net) sent.same in
+    let leaves : IsPlaceOf was router (place_at was at) =
+    between-is was limits router at small (omega arith) (omega arith) in
+    subst (λ (n : Net). IsBlocked aim after (place_at n at).arc) (sym net)
+    (blocked-later aim before after router amount (place_at was at).arc sent phase leaves.arc (passed at low high))

@@ -16,47 +16,77 @@ Rises net label arc = slice_index label (head_of net arc) ≡ slice_index label 
 abbrev pub IsSpent : Net → List ℕ → ℕ → Type 0
 IsSpent net cursor r = slice_index cursor r ≡ begin_of net (r + 1)
 
+-- A moment of a phase: the residual graph, and the place at which each router's cursor stands.
+pub record Moment : Type 0 where
+  pub view : ResidualView
+  pub cursor : List ℕ
+
+-- The moment of this graph and these cursors.
+abbrev pub moment_of : ResidualView → List ℕ → Moment
+moment_of view cursor = record { view = view; cursor = cursor }
+
+-- What a phase keeps: it sends flow to t, up the levels that the labels say, over arcs on which at least so much,
+-- the threshold, is left.
+pub record Aim : Type 0 where
+  pub threshold : ℕ
+  pub t : ℕ
+  pub label : List ℕ
+
+-- The aim with this threshold, this t and these labels.
+abbrev pub aim_of : ℕ → ℕ → List ℕ → Aim
+aim_of threshold t label = record { threshold = threshold; t = t; label = label }
+
 -- An arc that leads on is closed, or leads to a spent router other than t.
-abbrev pub IsBlocked : ResidualView → ℕ → ℕ → List ℕ → List ℕ → ℕ → Type 0
-IsBlocked view threshold t label cursor arc =
-    Rises view.net label arc →
-    (left_on view arc <ℤ pos threshold) ⊎ ((head_of view.net arc ≢ t) × IsSpent view.net cursor (head_of view.net arc))
+abbrev pub IsBlocked : Aim → Moment → ℕ → Type 0
+IsBlocked aim now arc =
+    Rises now.view.net aim.label arc →
+    (left_on now.view arc <ℤ pos aim.threshold)
+    ⊎ ((head_of now.view.net arc ≢ aim.t) × IsSpent now.view.net now.cursor (head_of now.view.net arc))
 
 -- Each router's cursor is among its places, that of t at the first one, and all before a cursor are blocked.
-pub record HasCome (view : ResidualView) (threshold t : ℕ) (label cursor : List ℕ) : Type 0 where
-  pub size : length cursor ≡ view.net.routers
-  pub fresh : slice_index cursor t ≡ begin_of view.net t
-  pub above : (r : ℕ) → r < view.net.routers → begin_of view.net r ≤ slice_index cursor r
-  pub below : (r : ℕ) → r < view.net.routers → slice_index cursor r ≤ begin_of view.net (r + 1)
+pub record HasCome (aim : Aim) (now : Moment) : Type 0 where
+  pub size : length now.cursor ≡ now.view.net.routers
+  pub fresh : slice_index now.cursor aim.t ≡ begin_of now.view.net aim.t
+  pub above : (r : ℕ) → r < now.view.net.routers → begin_of now.view.net r ≤ slice_index now.cursor r
+  pub below : (r : ℕ) → r < now.view.net.routers → slice_index now.cursor r ≤ begin_of now.view.net (r + 1)
   pub blocked :
-      (r at : ℕ) → r < view.net.routers → begin_of view.net r ≤ at → at < slice_index cursor r →
-      IsBlocked view threshold t label cursor (place_at view.net at).arc
+      (r at : ℕ) → r < now.view.net.routers → begin_of now.view.net r ≤ at → at < slice_index now.cursor r →
+      IsBlocked aim now (place_at now.view.net at).arc
 
 -- A state of a phase: a flow within the capacities, levels that rise to t, and cursors.
-pub record IsPhase (view : ResidualView) (threshold t : ℕ) (label cursor : List ℕ) : Type 0 where
-  pub sound : IsSound view
-  pub levelled : IsLevelled view threshold t label
-  pub come : HasCome view threshold t label cursor
+pub record IsPhase (aim : Aim) (now : Moment) : Type 0 where
+  pub sound : IsSound now.view
+  pub levelled : IsLevelled now.view aim.threshold aim.t aim.label
+  pub come : HasCome aim now
 
 -- What a router sends on to t, from one state of a phase to a later one: no arc that leads on gains,
 -- those that leave lower levels than the router's are as they were, and so are the cursors of all
 -- other routers that aren't on higher levels.
-pub record Sends (before after : ResidualView) (old new : List ℕ) (label : List ℕ) (router t amount : ℕ)
-    : Type 0 where
-  pub same : after ≡ record before { flow = after.flow }
-  pub sends : SendsMore before.net.links before.flow after.flow router t amount
+pub record Sends (aim : Aim) (before after : Moment) (router amount : ℕ) : Type 0 where
+  pub same : after.view ≡ record before.view { flow = after.view.flow }
+  pub sends : SendsMore before.view.net.links before.view.flow after.view.flow router aim.t amount
   pub falls :
-      (arc : ℕ) → arc < arc_count before.net → Rises before.net label arc →
-      left_on after arc ≤ℤ left_on before arc
+      (arc : ℕ) → arc < arc_count before.view.net → Rises before.view.net aim.label arc →
+      left_on after.view arc ≤ℤ left_on before.view arc
   pub spares :
-      (arc : ℕ) → arc < arc_count before.net →
-      slice_index label (tail_of before.net arc) < slice_index label router →
-      left_on after arc ≡ left_on before arc
-  pub moves : (r : ℕ) → slice_index old r ≤ slice_index new r
+      (arc : ℕ) → arc < arc_count before.view.net →
+      slice_index aim.label (tail_of before.view.net arc) < slice_index aim.label router →
+      left_on after.view arc ≡ left_on before.view arc
+  pub moves : (r : ℕ) → slice_index before.cursor r ≤ slice_index after.cursor r
   pub keeps :
-      (r : ℕ) → slice_index label r ≤ slice_index label router → r ≢ router →
-      slice_index new r ≡ slice_index old r
+      (r : ℕ) → slice_index aim.label r ≤ slice_index aim.label router → r ≢ router →
+      slice_index after.cursor r ≡ slice_index before.cursor r
+
+-- How far all cursors have come together, and the steps by then.
+pub record Tally : Type 0 where
+  pub places : ℕ
+  pub steps : ℕ
+
+-- The tally of these cursors and so many steps.
+abbrev pub tally_of : List ℕ → ℕ → Tally
+tally_of cursor steps = record { places = sum cursor; steps = steps }
 
 -- At most two steps at each of so many levels, for each place that was passed and once more.
-abbrev pub Costs : ℕ → List ℕ → List ℕ → ℕ → ℕ → Type 0
-Costs levels old new before after = after + 2 * (levels * sum old) ≤ before + 2 * (levels * sum new) + 2 * levels
+abbrev pub Costs : ℕ → Tally → Tally → Type 0
+Costs levels before after =
+    after.steps + 2 * (levels * before.places) ≤ before.steps + 2 * (levels * after.places) + 2 * levels

@@ -4,6 +4,7 @@ ghost use Rattle.residual_graph.specs.Arcs.{arc_count, tail_of};
 ghost use Rattle.residual_graph.specs.Places.{place_at};
 ghost use Rattle.residual_graph.specs.View.{IsSound, left_on, pushed};
 ghost use Rattle.dinic_flow.specs.Phases.{Costs, IsBlocked, IsPhase, IsSpent, Sends};
+ghost use Rattle.dinic_flow.specs.Phases.{aim_of, moment_of, tally_of};
 
 use cut_model::Steps;
 use residual_graph::Residual;
@@ -37,18 +38,19 @@ fn send_on<L: Ledger>(
     cursor: &mut [u32],
     steps: &mut Steps<L>,
 ) -> u64
-    requires phase { IsPhase graph.old threshold t label.now cursor.old }
+    requires phase { IsPhase (aim_of threshold t label.now) (moment_of graph.old cursor.old) }
     requires router { router < graph.old.net.routers }
     requires labelled { 0 < slice_index label.now router }
     requires t { t < graph.old.net.routers }
     requires threshold { 0 < threshold }
     requires limit { 0 < limit }
     ensures most { result ≤ limit }
-    ensures phase { IsPhase graph.new threshold t label.now cursor.new }
-    ensures sends { Sends graph.old graph.new cursor.old cursor.new label.now router t result }
+    ensures phase { IsPhase (aim_of threshold t label.now) (moment_of graph.new cursor.new) }
+    ensures sends { Sends (aim_of threshold t label.now)
+        (moment_of graph.old cursor.old) (moment_of graph.new cursor.new) router result }
     ensures spent { result < limit → (router ≢ t) × IsSpent graph.new.net cursor.new router }
     ensures cost { Costs (slice_index label.now t - slice_index label.now router)
-        cursor.old cursor.new steps.old steps.new }
+        (tally_of cursor.old steps.old) (tally_of cursor.new steps.new) }
 {
     if router == t {
         limit
@@ -72,7 +74,7 @@ fn send_over<L: Ledger>(
     cursor: &mut [u32],
     steps: &mut Steps<L>,
 ) -> u64
-    requires phase { IsPhase graph.old threshold t label.now cursor.old }
+    requires phase { IsPhase (aim_of threshold t label.now) (moment_of graph.old cursor.old) }
     requires at { at < arc_count graph.old.net }
     requires next { next
         ≡ slice_index label.now (tail_of graph.old.net (place_at graph.old.net at).arc) + 1 }
@@ -82,15 +84,17 @@ fn send_over<L: Ledger>(
     requires threshold { 0 < threshold }
     requires limit { 0 < limit }
     ensures most { result ≤ limit }
-    ensures phase { IsPhase graph.new threshold t label.now cursor.new }
-    ensures sends { Sends graph.old graph.new cursor.old cursor.new label.now
-        (tail_of graph.old.net (place_at graph.old.net at).arc) t result }
+    ensures phase { IsPhase (aim_of threshold t label.now) (moment_of graph.new cursor.new) }
+    ensures sends { Sends (aim_of threshold t label.now)
+        (moment_of graph.old cursor.old) (moment_of graph.new cursor.new)
+        (tail_of graph.old.net (place_at graph.old.net at).arc) result }
     ensures own { let tail = tail_of graph.old.net (place_at graph.old.net at).arc
         in slice_index cursor.new tail ≡ slice_index cursor.old tail }
     ensures blocked { result < limit →
-        IsBlocked graph.new threshold t label.now cursor.new (place_at graph.old.net at).arc }
+        IsBlocked (aim_of threshold t label.now)
+        (moment_of graph.new cursor.new) (place_at graph.old.net at).arc }
     ensures cost { Costs (slice_index label.now t - next)
-        cursor.old cursor.new (steps.old + 2) steps.new }
+        (tally_of cursor.old (steps.old + 2)) (tally_of cursor.new steps.new) }
 {
     let place = graph.place(at);
     if label[place.head as usize] != next {
@@ -122,7 +126,7 @@ pub fn send<L: Ledger>(
     cursor: &mut [u32],
     steps: &mut Steps<L>,
 ) -> u64
-    requires phase { IsPhase graph.old threshold t label.now cursor.old }
+    requires phase { IsPhase (aim_of threshold t label.now) (moment_of graph.old cursor.old) }
     requires router { router < graph.old.net.routers }
     requires labelled { 0 < slice_index label.now router }
     requires apart { router ≢ t }
@@ -130,11 +134,12 @@ pub fn send<L: Ledger>(
     requires threshold { 0 < threshold }
     requires limit { 0 < limit }
     ensures most { result ≤ limit }
-    ensures phase { IsPhase graph.new threshold t label.now cursor.new }
-    ensures sends { Sends graph.old graph.new cursor.old cursor.new label.now router t result }
+    ensures phase { IsPhase (aim_of threshold t label.now) (moment_of graph.new cursor.new) }
+    ensures sends { Sends (aim_of threshold t label.now)
+        (moment_of graph.old cursor.old) (moment_of graph.new cursor.new) router result }
     ensures spent { result < limit → IsSpent graph.new.net cursor.new router }
     ensures cost { Costs (slice_index label.now t - slice_index label.now router)
-        cursor.old cursor.new steps.old steps.new }
+        (tally_of cursor.old steps.old) (tally_of cursor.new steps.new) }
 {
     let next = label[router as usize] + 1;
     let end = graph.begin(router + 1);

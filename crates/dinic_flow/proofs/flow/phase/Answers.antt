@@ -1,9 +1,10 @@
 -- A phase sends less than the limit, so that s is spent in the end.
-use Rattle.std.proofs.Common.{◌≡◌, ◌+◌, ◌-◌, get_or, sum, ap, arith}
+use Rattle.std.proofs.Common.{◌≡◌, ◌+◌, ◌-◌, get_or, ap, arith}
 use Rattle.cut_model.specs.Net.{Net}
 use Rattle.cut_model.specs.Flow.{IsFlow}
 use Rattle.residual_graph.specs.Arcs.{arc_count}
 use Rattle.residual_graph.specs.View.{ResidualView}
+use Rattle.dinic_flow.specs.Phases.{moment_of, aim_of, tally_of}
 use Rattle.dinic_flow.proofs.Sending.{flow-more}
 use Rattle.dinic_flow.proofs.Flows.{flow-small}
 use Rattle.dinic_flow.proofs.Farther.{phase-begun, farther, cursors-move, phase-pays}
@@ -11,8 +12,9 @@ use Rattle.dinic_flow.proofs.flow.phase.Goals as goal
 
 pub send-requires-clause-phase : goal.send-requires-clause-phase
 send-requires-clause-phase g c =
-    phase-begun c.args.graph.now c.args.threshold c.args.t c.args.label.now c.copy_begins.new.cursor c.requires.sound
-    c.requires.levelled c.requires.t (omega (arith, c.requires.cursor)) c.copy_begins.ensures.begins
+    phase-begun (aim_of c.args.threshold c.args.t c.args.label.now)
+    (moment_of c.args.graph.now c.copy_begins.new.cursor) c.requires.sound c.requires.levelled c.requires.t
+    (omega (arith, c.requires.cursor)) c.copy_begins.ensures.begins
 
 pub overflow_add-result : goal.overflow_add-result
 overflow_add-result g c =
@@ -38,8 +40,8 @@ returns-clause-farther g c =
     c.send.ensures.sends.sends (rw net at c.send.ensures.phase.sound.within) in
     let small = flow-small before.net c.args.s c.args.t after.flow (c.args.value + c.send.result)
     c.requires.sound.limits c.requires.s more in
-    farther after c.args.threshold c.args.s c.args.t c.args.label.now c.send.new.cursor c.send.ensures.phase
-    c.requires.start c.requires.flow.differ_ends (rw net c.requires.s)
+    farther (aim_of c.args.threshold c.args.t c.args.label.now) (moment_of after c.send.new.cursor) c.args.s
+    c.send.ensures.phase c.requires.start c.requires.flow.differ_ends (rw net c.requires.s)
     (c.send.ensures.spent (omega (arith, small)))
 
 pub returns-clause-steps : goal.returns-clause-steps
@@ -48,9 +50,9 @@ returns-clause-steps g c =
     let after = c.send.new.graph in
     let net : after.net ≡ before.net = ap (λ (v : ResidualView). v.net) c.send.ensures.sends.same in
     let moved =
-    cursors-move after c.args.threshold c.args.t c.args.label.now c.copy_begins.new.cursor c.send.new.cursor
-    c.send.ensures.phase.sound c.send.ensures.phase (omega (arith, c.requires.cursor, ap (λ (n : Net). n.routers) net))
+    cursors-move (aim_of c.args.threshold c.args.t c.args.label.now) (moment_of after c.send.new.cursor)
+    c.copy_begins.new.cursor c.send.ensures.phase (omega (arith, c.requires.cursor, ap (λ (n : Net). n.routers) net))
     (λ r small. rw net (c.copy_begins.ensures.begins r (rw net at small))) in
-    phase-pays (get_or c.args.label.now c.args.t 0 - 1) (sum c.copy_begins.new.cursor) (sum c.send.new.cursor)
-    (arc_count before.net) c.args.steps.now c.send.new.steps (rw net at moved)
-    (rw c.requires.start at c.send.ensures.cost)
+    phase-pays (get_or c.args.label.now c.args.t 0 - 1) (arc_count before.net)
+    (tally_of c.copy_begins.new.cursor c.args.steps.now) (tally_of c.send.new.cursor c.send.new.steps)
+    (rw net at moved) (rw c.requires.start at c.send.ensures.cost)
