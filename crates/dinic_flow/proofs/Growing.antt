@@ -12,17 +12,49 @@ use Rattle.dinic_flow.specs.Searching.{IsJoined}
 unfoldable pub paid : ℕ → ℕ → ℕ
 paid arcs distance = arcs * distance + (arcs + 1) * (distance * (distance + 1))
 
--- So many phases were made, t is farther than a distance, and the steps are those of the phases up to it.
-pub record HasGrown (before after : ResidualView) (threshold s t value phases earlier steps : ℕ) : Type 0 where
+-- Where a flow is to grow: from s to t, over arcs on which at least so much, the threshold, is left.
+pub record Ends : Type 0 where
+  pub threshold : ℕ
+  pub s : ℕ
+  pub t : ℕ
+
+-- The ends with this threshold.
+abbrev pub ends_of : ℕ → ℕ → ℕ → Ends
+ends_of threshold s t = record { threshold = threshold; s = s; t = t }
+
+-- Where a flow stands between two phases: the residual graph, its value, and the phases and steps by then.
+pub record Standing : Type 0 where
+  pub view : ResidualView
+  pub value : ℕ
+  pub phases : ℕ
+  pub steps : ℕ
+
+-- From a residual graph and so many steps on so many phases were made, t is farther than a distance, and the
+-- steps since are those of the phases up to it.
+pub record HasGrown (ends : Ends) (before : ResidualView) (earlier : ℕ) (now : Standing) : Type 0 where
   pub distance : ℕ
-  pub same : after ≡ record before { flow = after.flow }
-  pub sound : IsSound after
-  pub flow : IsFlow after.net s t after.flow value
-  pub farther : IsFartherThan after threshold s t distance
-  pub short : distance < after.net.routers
-  pub few : phases ≤ distance
-  pub some : 0 < distance → 0 < arc_count after.net
-  pub cost : steps ≤ earlier + paid (arc_count after.net) distance
+  pub same : now.view ≡ record before { flow = now.view.flow }
+  pub sound : IsSound now.view
+  pub flow : IsFlow now.view.net ends.s ends.t now.view.flow now.value
+  pub farther : IsFartherThan now.view ends.threshold ends.s ends.t distance
+  pub short : distance < now.view.net.routers
+  pub few : now.phases ≤ distance
+  pub some : 0 < distance → 0 < arc_count now.view.net
+  pub cost : now.steps ≤ earlier + paid (arc_count now.view.net) distance
+
+-- A search that found levels, and one phase over these.
+pub record IsRound (ends : Ends) (now next : Standing) : Type 0 where
+  pub label : List ℕ
+  pub distance : ℕ
+  pub searched : ℕ
+  pub joined : IsJoined now.view ends.threshold ends.s ends.t label distance
+  pub looked : searched ≤ now.steps + arc_count now.view.net
+  pub counted : next.phases ≡ now.phases + 1
+  pub same : next.view ≡ record now.view { flow = next.view.flow }
+  pub sound : IsSound next.view
+  pub flow : IsFlow next.view.net ends.s ends.t next.view.flow next.value
+  pub farther : IsFartherThan next.view ends.threshold ends.s ends.t (get_or label ends.t 0 - 1)
+  pub cost : next.steps ≤ searched + 2 * ((get_or label ends.t 0 - 1) * (arc_count now.view.net + 1))
 
 -- No phase, and nothing paid.
 paid-none : (arcs : ℕ) → paid arcs 0 ≡ 0
@@ -52,36 +84,34 @@ unfolding paid
 paid-next arcs distance = omega arith
 
 -- One phase more, over levels where t is farther than before.
-pub grows-on : (before between after : ResidualView)
-    (threshold s t value next phases earlier steps searched sent distance : ℕ)
-    (label : List ℕ) → HasGrown before between threshold s t value phases earlier steps →
-    IsJoined between threshold s t label distance → searched ≤ steps + arc_count between.net →
-    after ≡ record between { flow = after.flow } → IsSound after → IsFlow after.net s t after.flow next →
-    IsFartherThan after threshold s t (get_or label t 0 - 1) →
-    sent ≤ searched + 2 * ((get_or label t 0 - 1) * (arc_count between.net + 1)) →
-    HasGrown before after threshold s t next (phases + 1) earlier sent
-grows-on before between after threshold s t value next phases earlier steps searched sent distance label old joined
-    looked same sound flow far cost =
-    let net : after.net ≡ between.net = ap (λ (v : ResidualView). v.net) same in
-    let arcs : ℕ = arc_count between.net in
-    let top : get_or label t 0 - 1 ≡ distance = omega (arith, joined.end) in
-    let later : old.distance < distance = old.farther distance joined.walk in
+pub grows-on : (ends : Ends) (before : ResidualView) (earlier : ℕ) (now next : Standing) →
+    HasGrown ends before earlier now → IsRound ends now next → HasGrown ends before earlier next
+grows-on ends before earlier now next old round =
+    let view : ResidualView = now.view in
+    let after : ResidualView = next.view in
+    let net : after.net ≡ view.net = ap (λ (v : ResidualView). v.net) round.same in
+    let arcs : ℕ = arc_count view.net in
+    let distance : ℕ = round.distance in
+    let top : get_or round.label ends.t 0 - 1 ≡ distance = omega (arith, round.joined.end) in
+    let later : old.distance < distance = old.farther distance round.joined.walk in
     let last : distance - 1 + 1 ≡ distance = omega arith in
     let less : paid arcs old.distance ≤ paid arcs (distance - 1) =
     paid-more arcs old.distance (distance - 1) (omega arith) in
     let more : paid arcs distance ≡ paid arcs (distance - 1) + arcs + 2 * (distance * (arcs + 1)) =
     rw last at (paid-next arcs (distance - 1)) in
-    let paid_now : sent ≤ searched + 2 * (distance * (arcs + 1)) = rw top at cost in
+    let paid_now : next.steps ≤ round.searched + 2 * (distance * (arcs + 1)) = rw top at round.cost in
     record {
       distance = distance;
-      same = same ∙ ap (λ (v : ResidualView). let w : ResidualView = record v { flow = after.flow } in w) old.same;
-      sound = sound;
-      flow = flow;
-      farther = rw top at far;
-      short = rw net joined.short;
-      few = omega (arith, old.few);
-      some = λ _. rw net (walk-some between threshold s t old.flow.differ_ends distance joined.walk).1;
-      cost = rw net (omega (arith, old.cost, looked, paid_now, less, more));
+      same = round.same
+          ∙ ap (λ (v : ResidualView). let w : ResidualView = record v { flow = after.flow } in w) old.same;
+      sound = round.sound;
+      flow = round.flow;
+      farther = rw top at round.farther;
+      short = rw net round.joined.short;
+      few = omega (arith, old.few, round.counted);
+      some = λ _.
+          rw net (walk-some view ends.threshold ends.s ends.t old.flow.differ_ends distance round.joined.walk).1;
+      cost = rw net (omega (arith, old.cost, round.looked, paid_now, less, more));
     }
 
 -- All phases up to one distance less than the number of routers, over some links, and the last search.

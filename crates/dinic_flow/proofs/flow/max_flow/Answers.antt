@@ -1,16 +1,37 @@
 -- Each phase is over levels that are farther than those before.
-use Rattle.std.proofs.Common.{◌≡◌, ℕ, ◌<◌, length, arith, ap}
+use Rattle.std.proofs.Common.{◌≡◌, ℕ, ◌+◌, ◌<◌, length, arith, ap, refl}
 use Rattle.residual_graph.specs.View.{ResidualView}
-use Rattle.dinic_flow.proofs.Growing.{grows-on, paid-all}
+use Rattle.dinic_flow.proofs.Growing.{Ends, ends_of, Standing, grows-on, paid-all}
 use Rattle.dinic_flow.proofs.flow.max_flow.Goals as goal
 
 pub loop-graph-preserved : goal.loop-graph-preserved
 loop-graph-preserved g c =
-    grows-on c.args.graph.now c.loop-graph.graph c.phase-value.new.graph c.args.threshold c.args.s c.args.t
-    c.loop-graph.value c.phase-value.result c.loop-graph.phases c.args.steps.now c.loop-graph.steps c.search.new.steps
-    c.phase-value.new.steps c.in-Joined.field-0 c.search.new.label c.loop-graph.invariant c.in-Joined.ensures.found
-    c.search.ensures.steps c.phase-value.ensures.same c.phase-value.ensures.sound c.phase-value.ensures.flow
-    c.phase-value.ensures.farther c.phase-value.ensures.steps
+    let ends : Ends = ends_of c.args.threshold c.args.s c.args.t in
+    let now : Standing = record {
+      view = c.loop-graph.graph;
+      value = c.loop-graph.value;
+      phases = c.loop-graph.phases;
+      steps = c.loop-graph.steps;
+    } in
+    let next : Standing = record {
+      view = c.phase-value.new.graph;
+      value = c.phase-value.result;
+      phases = c.loop-graph.phases + 1;
+      steps = c.phase-value.new.steps;
+    } in
+    grows-on ends c.args.graph.now c.args.steps.now now next c.loop-graph.invariant (record {
+      label = c.search.new.label;
+      distance = c.in-Joined.field-0;
+      searched = c.search.new.steps;
+      joined = c.in-Joined.ensures.found;
+      looked = c.search.ensures.steps;
+      counted = refl;
+      same = c.phase-value.ensures.same;
+      sound = c.phase-value.ensures.sound;
+      flow = c.phase-value.ensures.flow;
+      farther = c.phase-value.ensures.farther;
+      cost = c.phase-value.ensures.steps;
+    })
 
 pub returns-in-Apart-clause-steps : goal.returns-in-Apart-clause-steps
 returns-in-Apart-clause-steps g c =
