@@ -12,7 +12,7 @@ use Rattle.residual_graph.specs.Places.{begin_of, place_at}
 use Rattle.residual_graph.specs.View.{ResidualView}
 use Rattle.residual_graph.proofs.ByPlace.{arc-between}
 use Rattle.dinic_flow.specs.Levels.{IsLevelled}
-use Rattle.dinic_flow.specs.Phases.{Moment, moment_of, Aim, IsSpent, IsBlocked, IsPhase, Sends}
+use Rattle.dinic_flow.specs.Phases.{Moment, moment_of, Aim, IsSpent, IsBlocked, AreBlocked, IsPhase, Sends}
 
 -- A cursor that is put elsewhere is there, and every other one where it was.
 cursor-moved : (cursor : List ℕ) (router v r : ℕ) → router < length cursor → get_or cursor router 0 ≤ v →
@@ -51,8 +51,7 @@ with_cursor now router at = moment_of now.view (set now.cursor router at)
 pub phase-moved : (aim : Aim) (now : Moment) (router v : ℕ) →
     IsPhase aim now → router < now.view.net.routers → router ≢ aim.t →
     get_or now.cursor router 0 ≤ v → v ≤ begin_of now.view.net (router + 1) →
-    ((at : ℕ) → get_or now.cursor router 0 ≤ at → at < v → IsBlocked aim now (place_at now.view.net at).arc) →
-    IsPhase aim (with_cursor now router v)
+    AreBlocked aim now (get_or now.cursor router 0) v → IsPhase aim (with_cursor now router v)
 phase-moved aim now router v old small apart later most passed =
     let net : Net = now.view.net in
     let cursor : List ℕ = now.cursor in
@@ -78,11 +77,11 @@ phase-moved aim now router v old small apart later most passed =
           | inl is ↦ subst (λ (x : ℕ). get_or (set cursor router v) x 0 ≤ begin_of net (x + 1)) (sym is)
               (omega (arith, same, most))
         ];
-        blocked = λ r at below low high.
+        blocked = λ r below at low high.
             let arc : ℕ = (place_at net at).arc in
             blocked-moved aim now (set cursor router v) arc (stays (head_of net arc))
             (elim (cases_lt at (get_or cursor r 0)) [
-              | inl before ↦ old.come.blocked r at below low before
+              | inl before ↦ old.come.blocked r below at low before
               | inr behind ↦ elim (cases_eq r router) [
                 | inr ne ↦ absurd (omega (arith, other r ne, high, behind))
                 | inl is ↦

@@ -92,7 +92,7 @@ stuck aim now phase some (suc arcs) u (w, arc, rest) steep apart small spent =
     let (at, from, to, is) = arc-between view.net phase.sound.limits arc.arc arc.within in
     let start : begin_of view.net u ≤ at = rw arc.tail at from in
     let passed : at < get_or now.cursor u 0 = omega (arith, rw arc.tail at to, spent) in
-    let was : IsBlocked aim now (place_at view.net at).arc = phase.come.blocked u at small start passed in
+    let was : IsBlocked aim now (place_at view.net at).arc = phase.come.blocked u small at start passed in
     let is_arc : (place_at view.net at).arc ≡ arc.arc = ap (λ (p : Place). p.arc) is in
     elim (subst (λ (x : ℕ). IsBlocked aim now x) is_arc was leads) [
       | inl closed ↦ closed-open _ aim.threshold closed arc.is_open
@@ -135,7 +135,7 @@ phase-begun aim now sound levelled small size begun = record {
     fresh = begun aim.t small;
     above = λ r below. omega (arith, begun r below);
     below = λ r below. omega (arith, begun r below, begin-next now.view.net r);
-    blocked = λ r at below low high. absurd (omega (arith, begun r below, high));
+    blocked = λ r below at low high. absurd (omega (arith, begun r below, high));
   };
 }
 

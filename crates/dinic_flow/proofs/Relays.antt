@@ -14,7 +14,8 @@ use Rattle.residual_graph.proofs.ByPlace.{between-is}
 use Rattle.residual_graph.proofs.Listed.{head_below}
 use Rattle.dinic_flow.specs.Levels.{IsOpen, height, IsLevelled}
 use Rattle.dinic_flow.specs.Sending.{only_at}
-use Rattle.dinic_flow.specs.Phases.{Moment, moment_of, Aim, Rises, IsSpent, IsBlocked, IsPhase, Sends}
+use Rattle.dinic_flow.specs.Phases.{Moment, moment_of, Aim, Rises, IsSpent, IsBlocked}
+use Rattle.dinic_flow.specs.Phases.{AreBlocked, IsPhase, Sends}
 use Rattle.dinic_flow.proofs.Pushes.{caps-length, out-pushed, left-pushed, left-apart, IsTwin, twins}
 
 -- What is at most a second number is at most what that is at most.
@@ -170,9 +171,9 @@ phase-push aim now after arc amount push some sound old =
         fresh = rw net old.come.fresh;
         above = λ r small. rw net (old.come.above r (rw net at small));
         below = λ r small. rw net (old.come.below r (rw net at small));
-        blocked = λ r at small low high.
+        blocked = λ r small at low high.
             let was : IsBlocked aim now (place_at before.net at).arc =
-            old.come.blocked r at (rw net at small) (rw net at low) high in
+            old.come.blocked r (rw net at small) at (rw net at low) high in
             subst (λ (n : Net). IsBlocked aim (moment_of after now.cursor) (place_at n at).arc) (sym net)
             (blocked-push aim now after arc amount (place_at before.net at).arc push was);
       };
@@ -369,8 +370,7 @@ pub passed-later : (aim : Aim) (before after : Moment) (router amount from to : 
     Sends aim before after router amount → IsPhase aim after →
     IsInLimits before.view.net → router < before.view.net.routers →
     begin_of before.view.net router ≤ from → to ≤ begin_of before.view.net (router + 1) →
-    ((at : ℕ) → from ≤ at → at < to → IsBlocked aim before (place_at before.view.net at).arc) →
-    (at : ℕ) → from ≤ at → at < to → IsBlocked aim after (place_at after.view.net at).arc
+    AreBlocked aim before from to → AreBlocked aim after from to
 passed-later aim before after router amount from to sent phase limits small start end passed at low high =
     let was : Net = before.view.net in
     let net : after.view.net ≡ was = ap (λ (v : ResidualView). v.net) sent.same in

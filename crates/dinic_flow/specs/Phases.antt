@@ -43,6 +43,10 @@ IsBlocked aim now arc =
     (left_on now.view arc <ℤ pos aim.threshold)
     ⊎ ((head_of now.view.net arc ≢ aim.t) × IsSpent now.view.net now.cursor (head_of now.view.net arc))
 
+-- All arcs at the places from one up to another are blocked.
+abbrev pub AreBlocked : Aim → Moment → ℕ → ℕ → Type 0
+AreBlocked aim now from to = (at : ℕ) → from ≤ at → at < to → IsBlocked aim now (place_at now.view.net at).arc
+
 -- Each router's cursor is among its places, that of t at the first one, and all before a cursor are blocked.
 pub record HasCome (aim : Aim) (now : Moment) : Type 0 where
   pub size : length now.cursor ≡ now.view.net.routers
@@ -50,8 +54,7 @@ pub record HasCome (aim : Aim) (now : Moment) : Type 0 where
   pub above : (r : ℕ) → r < now.view.net.routers → begin_of now.view.net r ≤ slice_index now.cursor r
   pub below : (r : ℕ) → r < now.view.net.routers → slice_index now.cursor r ≤ begin_of now.view.net (r + 1)
   pub blocked :
-      (r at : ℕ) → r < now.view.net.routers → begin_of now.view.net r ≤ at → at < slice_index now.cursor r →
-      IsBlocked aim now (place_at now.view.net at).arc
+      (r : ℕ) → r < now.view.net.routers → AreBlocked aim now (begin_of now.view.net r) (slice_index now.cursor r)
 
 -- A state of a phase: a flow within the capacities, levels that rise to t, and cursors.
 pub record IsPhase (aim : Aim) (now : Moment) : Type 0 where

@@ -90,8 +90,7 @@ send-send_over-sent-requires g t c κs within =
     let router : ℕ = c.args.router in
     let at : ℕ = c.loop-at.at in
     let was = c.loop-at.invariant.passing in
-    let next = is_next aim start now router c.loop-at.sent at was c.requires.phase c.requires.router (omega arith)
-    (omega (arith, c.begin-end.ensures.value)) in
+    let next = is_next aim start now router c.loop-at.sent at was (omega (arith, c.begin-end.ensures.value)) in
     let view : ResidualView = now.view in
     let net = passing-net aim start now router c.loop-at.sent at was in
     let inside = next.inside in
@@ -110,13 +109,12 @@ send-returns-then-sent-limit-clause-phase g t c =
     let router : ℕ = c.args.router in
     let at : ℕ = c.loop-at.at in
     let was = c.loop-at.invariant.passing in
-    let next = is_next aim start now router c.loop-at.sent at was c.requires.phase c.requires.router (omega arith)
-    (omega (arith, c.begin-end.ensures.value)) in
+    let next = is_next aim start now router c.loop-at.sent at was (omega (arith, c.begin-end.ensures.value)) in
     let after : Moment = moment_of c.send_over-sent.new.graph c.send_over-sent.new.cursor in
     let more = passing-more aim start now after router c.loop-at.sent c.send_over-sent.result at was next
     c.send_over-sent.ensures.phase c.send_over-sent.ensures.sends c.send_over-sent.ensures.own in
-    passed-phase aim start after router (c.loop-at.sent + c.send_over-sent.result) at more c.requires.router
-    c.requires.apart (omega arith) (omega (arith, c.begin-end.ensures.value))
+    passed-phase aim start after router (c.loop-at.sent + c.send_over-sent.result) at more
+    (omega (arith, c.begin-end.ensures.value))
 
 pub send-returns-then-sent-limit-clause-sends : goal.send-returns-then-sent-limit-clause-sends
 send-returns-then-sent-limit-clause-sends g t c =
@@ -126,13 +124,11 @@ send-returns-then-sent-limit-clause-sends g t c =
     let router : ℕ = c.args.router in
     let at : ℕ = c.loop-at.at in
     let was = c.loop-at.invariant.passing in
-    let next = is_next aim start now router c.loop-at.sent at was c.requires.phase c.requires.router (omega arith)
-    (omega (arith, c.begin-end.ensures.value)) in
+    let next = is_next aim start now router c.loop-at.sent at was (omega (arith, c.begin-end.ensures.value)) in
     let after : Moment = moment_of c.send_over-sent.new.graph c.send_over-sent.new.cursor in
     let more = passing-more aim start now after router c.loop-at.sent c.send_over-sent.result at was next
     c.send_over-sent.ensures.phase c.send_over-sent.ensures.sends c.send_over-sent.ensures.own in
-    passed-sends aim start after router (c.loop-at.sent + c.send_over-sent.result) at more c.requires.router
-    (omega arith)
+    passed-sends aim start after router (c.loop-at.sent + c.send_over-sent.result) at more
 
 pub send-returns-then-sent-limit-clause-cost : goal.send-returns-then-sent-limit-clause-cost
 send-returns-then-sent-limit-clause-cost g t c =
@@ -142,13 +138,12 @@ send-returns-then-sent-limit-clause-cost g t c =
     let router : ℕ = c.args.router in
     let at : ℕ = c.loop-at.at in
     let was = c.loop-at.invariant.passing in
-    let next = is_next aim start now router c.loop-at.sent at was c.requires.phase c.requires.router (omega arith)
-    (omega (arith, c.begin-end.ensures.value)) in
+    let next = is_next aim start now router c.loop-at.sent at was (omega (arith, c.begin-end.ensures.value)) in
     let after : Moment = moment_of c.send_over-sent.new.graph c.send_over-sent.new.cursor in
     let more = passing-more aim start now after router c.loop-at.sent c.send_over-sent.result at was next
     c.send_over-sent.ensures.phase c.send_over-sent.ensures.sends c.send_over-sent.ensures.own in
     last-costs aim start after router (c.loop-at.sent + c.send_over-sent.result) at c.args.steps.now
-    c.send_over-sent.new.steps more c.requires.phase c.requires.router c.requires.apart
+    c.send_over-sent.new.steps more
     (pays-place (levels_above aim (get_or aim.label router 0 + 1)) (get_or start.cursor router 0) at
     (tally_of start.cursor c.args.steps.now) (tally_of now.cursor c.loop-at.steps)
     (tally_of after.cursor c.send_over-sent.new.steps) c.loop-at.invariant.paid c.send_over-sent.ensures.cost)
@@ -161,8 +156,7 @@ send-loop-at-preserved g t c =
     let router : ℕ = c.args.router in
     let at : ℕ = c.loop-at.at in
     let was = c.loop-at.invariant.passing in
-    let next = is_next aim start now router c.loop-at.sent at was c.requires.phase c.requires.router (omega arith)
-    (omega (arith, c.begin-end.ensures.value)) in
+    let next = is_next aim start now router c.loop-at.sent at was (omega (arith, c.begin-end.ensures.value)) in
     let after : Moment = moment_of c.send_over-sent.new.graph c.send_over-sent.new.cursor in
     let more = passing-more aim start now after router c.loop-at.sent c.send_over-sent.result at was next
     c.send_over-sent.ensures.phase c.send_over-sent.ensures.sends c.send_over-sent.ensures.own in
@@ -190,8 +184,8 @@ send-returns-clause-phase g t c =
     let bound : get_or start.cursor router 0 ≤ c.begin-end.result =
     omega (arith, c.requires.phase.come.below router c.requires.router, c.begin-end.ensures.value) in
     let last : at ≡ c.begin-end.result = omega (arith, c.loop-at.auto.at-end bound) in
-    rw (← last) (passed-phase aim start now router c.loop-at.sent at was c.requires.router c.requires.apart
-    (omega arith) (omega (arith, c.begin-end.ensures.value)))
+    rw (← last) (passed-phase aim start now router c.loop-at.sent at was
+    (omega (arith, c.begin-end.ensures.value)))
 
 pub send-returns-clause-sends : goal.send-returns-clause-sends
 send-returns-clause-sends g t c =
@@ -204,7 +198,7 @@ send-returns-clause-sends g t c =
     let bound : get_or start.cursor router 0 ≤ c.begin-end.result =
     omega (arith, c.requires.phase.come.below router c.requires.router, c.begin-end.ensures.value) in
     let last : at ≡ c.begin-end.result = omega (arith, c.loop-at.auto.at-end bound) in
-    rw (← last) (passed-sends aim start now router c.loop-at.sent at was c.requires.router (omega arith))
+    rw (← last) (passed-sends aim start now router c.loop-at.sent at was)
 
 pub send-returns-clause-cost : goal.send-returns-clause-cost
 send-returns-clause-cost g t c =
@@ -218,4 +212,4 @@ send-returns-clause-cost g t c =
     omega (arith, c.requires.phase.come.below router c.requires.router, c.begin-end.ensures.value) in
     let last : at ≡ c.begin-end.result = omega (arith, c.loop-at.auto.at-end bound) in
     rw (← last) (passed-costs aim start now router c.loop-at.sent at c.args.steps.now c.loop-at.steps was
-    c.requires.phase c.requires.router c.requires.apart c.loop-at.invariant.paid)
+    c.loop-at.invariant.paid)
