@@ -8,12 +8,12 @@ use Rattle.dinic_flow.specs.Balls.{Search, ball_of, AreApart, IsBall}
 use Rattle.dinic_flow.proofs.Walks.{walks-still}
 
 -- Labels that only the centre has.
-record IsAlone (label : List ℕ) (centre : ℕ) : Type 0 where
-  here : get_or label centre 0 ≡ 1
-  only : (r : ℕ) → r ≢ centre → get_or label r 0 ≡ 0
+pub record IsAlone (label : List ℕ) (centre : ℕ) : Type 0 where
+  pub here : get_or label centre 0 ≡ 1
+  pub only : (r : ℕ) → r ≢ centre → get_or label r 0 ≡ 0
 
 -- Where all labels are taken away and one is given, only its router has one.
-alone-begun : (label : List ℕ) (size centre : ℕ) → label ≡ set (replicate size 0) centre 1 → centre < size →
+pub alone-begun : (label : List ℕ) (size centre : ℕ) → label ≡ set (replicate size 0) centre 1 → centre < size →
     IsAlone label centre
 alone-begun label size centre is within =
     let bare : List ℕ = replicate size 0 in
@@ -26,17 +26,20 @@ alone-begun label size centre is within =
       ]);
     }
 
+-- A queue in whose first place the centre was put begins with it.
+pub first-put : (queue before : List ℕ) (centre : ℕ) → queue ≡ set before 0 centre → 0 < length before →
+    get_or queue 0 0 ≡ centre
+first-put queue before centre put room = rw put (get_or-set_same before 0 centre 0 room)
+
 -- A ball of the centre alone.
 abbrev begun : Ball
 begun = record { front = 0; known = 1; radius = 0 }
 
 -- A ball begins with its centre.
-pub begun-ball : (search : Search) (back : Bool) (label before queue : List ℕ) (size centre : ℕ) →
-    label ≡ set (replicate size 0) centre 1 → queue ≡ set before 0 centre → centre < size → 0 < length before →
-    centre < search.view.net.routers → IsBall search back (ball_of label queue begun)
-begun-ball search back label before queue size centre is put within room small =
-    let alone : IsAlone label centre = alone-begun label size centre is within in
-    let first : get_or queue 0 0 ≡ centre = rw put (get_or-set_same before 0 centre 0 room) in
+pub begun-ball : (search : Search) (back : Bool) (label queue : List ℕ) (centre : ℕ) →
+    IsAlone label centre → get_or queue 0 0 ≡ centre → centre < search.view.net.routers →
+    IsBall search back (ball_of label queue begun)
+begun-ball search back label queue centre alone first small =
     let level : get_or label (get_or queue 0 0) 0 ≡ 1 = rw first alone.here in
     let zero_only : (k : ℕ) → k < 1 → k ≡ 0 = λ k short. omega (arith, short) in
     record {
@@ -63,17 +66,9 @@ begun-ball search back label before queue size centre is put within room small =
       closed = λ k short. absurd (omega (arith, short));
     }
 
--- Its queue begins with it.
-pub first-put : (queue before : List ℕ) (centre : ℕ) → queue ≡ set before 0 centre → 0 < length before →
-    get_or queue 0 0 ≡ centre
-first-put queue before centre put room = rw put (get_or-set_same before 0 centre 0 room)
-
 -- Two balls that begin are apart, if their centres differ.
-pub begun-apart : (label marks : List ℕ) (size size_too s t : ℕ) → label ≡ set (replicate size 0) s 1 →
-    marks ≡ set (replicate size_too 0) t 1 → s < size → t < size_too → s ≢ t → AreApart label marks
-begun-apart label marks size size_too s t is is_too within within_too differ r some =
-    let alone : IsAlone label s = alone-begun label size s is within in
-    let alone_too : IsAlone marks t = alone-begun marks size_too t is_too within_too in
+pub begun-apart : (label marks : List ℕ) (s t : ℕ) → IsAlone label s → IsAlone marks t → s ≢ t → AreApart label marks
+begun-apart label marks s t alone alone_too differ r some =
     elim (cases_eq r s) [
       | inl same ↦ alone_too.only r (λ e. differ (sym same ∙ e))
       | inr other ↦ absurd (omega (arith, some, alone.only r other))

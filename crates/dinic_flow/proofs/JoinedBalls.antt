@@ -117,44 +117,37 @@ numbered-far {near = near} {far = far} final balls whole far_room numbered =
     }
 
 -- A round of the ball about s that an open arc stops joins the balls.
-pub joined-near : {search : Search} {near far : BallView} (s t : ℕ) (bare final : List ℕ) →
+pub joined-near : {search : Search} {near far : BallView} (bare final : List ℕ) →
     AreBalls search near far → IsWhole far → near.front < near.stop →
     near.reached.known ≤ length near.reached.queue → far.stop ≤ length far.reached.queue →
     Meets search false near far.reached.label → IsLetOut near.reached.label bare (beyond_of near) →
     IsNumbered bare final far.reached.label (inner_of far) (total_of near far) →
-    length final ≡ search.view.net.routers → centre_of near ≡ s → centre_of far ≡ t →
-    IsJoined search.view search.threshold s t final (near.radius + far.radius + 1)
-joined-near {search = search} {near = near} {far = far} s t bare final balls whole some near_room far_room meets
-    out numbered size start end =
+    length final ≡ search.view.net.routers →
+    IsJoined search.view search.threshold (centre_of near) (centre_of far) final (near.radius + far.radius + 1)
+joined-near {search = search} {near = near} {far = far} bare final balls whole some near_room far_room meets out
+    numbered size =
     let u : ℕ = meets.from in
     let v : ℕ = meets.crosses.to in
     let none : label_in far u ≡ 0 = balls.apart u (omega (arith, meets.level)) in
     let rim = at-rim balls.far_ball whole v u meets.crosses.marked meets.crosses.leads none in
     let one : IsOneNumbering near far final =
     numbered-near bare final balls whole near_room far_room out numbered in
-    let both : IsJoined search.view search.threshold (centre_of near) (centre_of far) final
-    (near.radius + far.radius + 1) =
     joined search near far final balls one u v meets.crosses.leads meets.level rim.0 size
-    (omega (arith, some, balls.near_ball.within)) rim.1 in
-    rw (start, end) at both
+    (omega (arith, some, balls.near_ball.within)) rim.1
 
 -- So does a round of the ball about t.
-pub joined-far : {search : Search} {near far : BallView} (s t : ℕ) (final : List ℕ) →
+pub joined-far : {search : Search} {near far : BallView} (final : List ℕ) →
     AreBalls search near far → IsWhole near → far.front < far.stop → far.stop ≤ length far.reached.queue →
     Meets search true far near.reached.label →
     IsNumbered near.reached.label final far.reached.label (inner_of far) (total_of near far) →
-    length final ≡ search.view.net.routers → centre_of near ≡ s → centre_of far ≡ t →
-    IsJoined search.view search.threshold s t final (near.radius + far.radius + 1)
-joined-far {search = search} {near = near} {far = far} s t final balls whole some far_room meets numbered size
-    start end =
+    length final ≡ search.view.net.routers →
+    IsJoined search.view search.threshold (centre_of near) (centre_of far) final (near.radius + far.radius + 1)
+joined-far {search = search} {near = near} {far = far} final balls whole some far_room meets numbered size =
     let v : ℕ = meets.from in
     let u : ℕ = meets.crosses.to in
     let none : label_in near v ≡ 0 =
     apart-turned near.reached.label far.reached.label balls.apart v (omega (arith, meets.level)) in
     let rim = at-rim balls.near_ball whole u v meets.crosses.marked meets.crosses.leads none in
     let one : IsOneNumbering near far final = numbered-far final balls whole far_room numbered in
-    let both : IsJoined search.view search.threshold (centre_of near) (centre_of far) final
-    (near.radius + far.radius + 1) =
     joined search near far final balls one u v meets.crosses.leads rim.0 meets.level size rim.1
-    (omega (arith, some, balls.far_ball.within)) in
-    rw (start, end) at both
+    (omega (arith, some, balls.far_ball.within))

@@ -1,33 +1,35 @@
 -- A search begins, goes on and ends.
-use Rattle.std.proofs.Common.{false, true, ◌∙◌, arith, rules}
-use Rattle.dinic_flow.specs.Balls.{search_of, reached_of, ball_of, round_of, AreBalls}
+use Rattle.std.proofs.Common.{◌≡◌, false, true, ◌∙◌, arith, rules}
+use Rattle.dinic_flow.specs.Balls.{BallView, search_of, reached_of, ball_of, round_of, centre_of, AreBalls}
 use Rattle.dinic_flow.proofs.Labels.{apart-turned}
 use Rattle.dinic_flow.proofs.QueueFronts.{front-routers, part-routers}
 use Rattle.dinic_flow.proofs.JoinedBalls.{joined-near, joined-far}
 use Rattle.dinic_flow.proofs.PartedBalls.{parted}
-use Rattle.dinic_flow.proofs.BegunBalls.{begun-ball, first-put, begun-apart}
+use Rattle.dinic_flow.proofs.BegunBalls.{alone-begun, first-put, begun-ball, begun-apart}
 use Rattle.dinic_flow.proofs.WorkOfBalls.{work-both}
 use Rattle.dinic_flow.proofs.search.search.Goals as goal
 
 pub loop-near-init : goal.loop-near-init
 loop-near-init g c =
     let search = search_of c.args.graph.now c.args.threshold in
+    let near_alone = alone-begun c.begin-near.new.label _ c.args.s c.begin-near.ensures.label (omega arith) in
+    let far_alone = alone-begun c.begin-far.new.label _ c.args.t c.begin-far.ensures.label (omega arith) in
+    let start = first-put c.begin-near.new.queue _ c.args.s c.begin-near.ensures.queue (omega arith) in
+    let end = first-put c.begin-far.new.queue _ c.args.t c.begin-far.ensures.queue (omega arith) in
     rw (c.begin-near.ensures.ball, c.begin-far.ensures.ball)
     record {
       balls = record {
-        near_ball = begun-ball search false c.begin-near.new.label c.args.ahead.now
-            c.begin-near.new.queue _ c.args.s c.begin-near.ensures.label c.begin-near.ensures.queue
-            (omega arith) (omega arith) c.requires.s;
-        far_ball = begun-ball search true c.begin-far.new.label c.args.behind.now
-            c.begin-far.new.queue _ c.args.t c.begin-far.ensures.label c.begin-far.ensures.queue
-            (omega arith) (omega arith) c.requires.t;
-        apart = begun-apart c.begin-near.new.label c.begin-far.new.label _ _ c.args.s c.args.t
-            c.begin-near.ensures.label c.begin-far.ensures.label (omega arith) (omega arith) c.requires.differ;
+        near_ball = begun-ball search false c.begin-near.new.label c.begin-near.new.queue c.args.s near_alone start
+            c.requires.s;
+        far_ball = begun-ball search true c.begin-far.new.label c.begin-far.new.queue c.args.t far_alone end
+            c.requires.t;
+        apart = begun-apart c.begin-near.new.label c.begin-far.new.label c.args.s c.args.t near_alone far_alone
+            c.requires.differ;
       };
       near_few = omega (arith, c.requires.s);
       far_few = omega (arith, c.requires.t);
-      start = first-put _ _ _ c.begin-near.ensures.queue (omega arith);
-      end = first-put _ _ _ c.begin-far.ensures.queue (omega arith);
+      start = start;
+      end = end;
       steps = omega arith;
     }
 
@@ -48,28 +50,31 @@ pub returns-then-round-clause-found : goal.returns-then-round-clause-found
 returns-then-round-clause-found g c =
     let old = c.loop-near.invariant in
     let round = c.spread-round in
-    let balls : AreBalls (search_of c.args.graph.now c.args.threshold)
-    (round_of c.loop-near.near (reached_of round.new.label round.new.queue round.result.known))
-    (ball_of c.loop-near.marks c.loop-near.behind c.loop-near.far) = record {
+    let near : BallView =
+    round_of c.loop-near.near (reached_of round.new.label round.new.queue round.result.known) in
+    let far : BallView = ball_of c.loop-near.marks c.loop-near.behind c.loop-near.far in
+    let balls : AreBalls (search_of c.args.graph.now c.args.threshold) near far = record {
       near_ball = round.ensures.stopped c.if-round.true;
       far_ball = old.balls.far_ball;
       apart = round.ensures.apart;
     } in
-    joined-near c.args.s c.args.t c.unlabel.new.label c.number.new.label balls (omega arith)
+    let start : centre_of near ≡ c.args.s = round.ensures.centre ∙ old.start in
+    let end : centre_of far ≡ c.args.t = old.end in
+    rw (start, end) at (joined-near c.unlabel.new.label c.number.new.label balls (omega arith)
     (omega (arith, c.loop-near-test.true))
     (omega (arith, round.ensures.few, round.auto.queue, c.loop-near.auto.ahead))
     (omega (arith, old.far_few, c.loop-near.auto.behind))
     (round.ensures.meets c.if-round.true) c.unlabel.ensures c.number.ensures
-    (omega (arith, c.number.auto.label, c.unlabel.auto.label, round.auto.label, c.loop-near.auto.label))
-    (round.ensures.centre ∙ old.start) old.end
+    (omega (arith, c.number.auto.label, c.unlabel.auto.label, round.auto.label, c.loop-near.auto.label)))
 
 pub returns-then-round-clause-steps : goal.returns-then-round-clause-steps
 returns-then-round-clause-steps g c =
     let old = c.loop-near.invariant in
     let round = c.spread-round in
-    let balls : AreBalls (search_of c.args.graph.now c.args.threshold)
-    (round_of c.loop-near.near (reached_of round.new.label round.new.queue round.result.known))
-    (ball_of c.loop-near.marks c.loop-near.behind c.loop-near.far) = record {
+    let near : BallView =
+    round_of c.loop-near.near (reached_of round.new.label round.new.queue round.result.known) in
+    let far : BallView = ball_of c.loop-near.marks c.loop-near.behind c.loop-near.far in
+    let balls : AreBalls (search_of c.args.graph.now c.args.threshold) near far = record {
       near_ball = round.ensures.stopped c.if-round.true;
       far_ball = old.balls.far_ball;
       apart = round.ensures.apart;
@@ -99,27 +104,30 @@ pub returns-then-round-2-clause-found : goal.returns-then-round-2-clause-found
 returns-then-round-2-clause-found g c =
     let old = c.loop-near.invariant in
     let round = c.spread-round-else-grows_near in
-    let balls : AreBalls (search_of c.args.graph.now c.args.threshold)
-    (ball_of c.loop-near.label c.loop-near.ahead c.loop-near.near)
-    (round_of c.loop-near.far (reached_of round.new.label round.new.queue round.result.known)) = record {
+    let near : BallView = ball_of c.loop-near.label c.loop-near.ahead c.loop-near.near in
+    let far : BallView =
+    round_of c.loop-near.far (reached_of round.new.label round.new.queue round.result.known) in
+    let balls : AreBalls (search_of c.args.graph.now c.args.threshold) near far = record {
       near_ball = old.balls.near_ball;
       far_ball = round.ensures.stopped c.if-round-2.true;
       apart = apart-turned _ _ round.ensures.apart;
     } in
-    joined-far c.args.s c.args.t c.number-then-round-2.new.label balls (omega arith)
+    let start : centre_of near ≡ c.args.s = old.start in
+    let end : centre_of far ≡ c.args.t = round.ensures.centre ∙ old.end in
+    rw (start, end) at (joined-far c.number-then-round-2.new.label balls (omega arith)
     (c.if-grows_near.ensures (search rules))
     (omega (arith, old.far_few, round.auto.queue, c.loop-near.auto.behind))
     (round.ensures.meets c.if-round-2.true) c.number-then-round-2.ensures
-    (omega (arith, c.number-then-round-2.auto.label, c.loop-near.auto.label))
-    old.start (round.ensures.centre ∙ old.end)
+    (omega (arith, c.number-then-round-2.auto.label, c.loop-near.auto.label)))
 
 pub returns-then-round-2-clause-steps : goal.returns-then-round-2-clause-steps
 returns-then-round-2-clause-steps g c =
     let old = c.loop-near.invariant in
     let round = c.spread-round-else-grows_near in
-    let balls : AreBalls (search_of c.args.graph.now c.args.threshold)
-    (ball_of c.loop-near.label c.loop-near.ahead c.loop-near.near)
-    (round_of c.loop-near.far (reached_of round.new.label round.new.queue round.result.known)) = record {
+    let near : BallView = ball_of c.loop-near.label c.loop-near.ahead c.loop-near.near in
+    let far : BallView =
+    round_of c.loop-near.far (reached_of round.new.label round.new.queue round.result.known) in
+    let balls : AreBalls (search_of c.args.graph.now c.args.threshold) near far = record {
       near_ball = old.balls.near_ball;
       far_ball = round.ensures.stopped c.if-round-2.true;
       apart = apart-turned _ _ round.ensures.apart;
