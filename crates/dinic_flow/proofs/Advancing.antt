@@ -12,7 +12,8 @@ use Rattle.residual_graph.specs.Places.{begin_of, place_at}
 use Rattle.residual_graph.specs.View.{ResidualView}
 use Rattle.residual_graph.proofs.ByPlace.{arc-between}
 use Rattle.dinic_flow.specs.Levels.{IsLevelled}
-use Rattle.dinic_flow.specs.Phases.{Moment, moment_of, Aim, IsSpent, IsBlocked, AreBlocked, IsPhase, Sends}
+use Rattle.dinic_flow.specs.Phases.{Moment, moment_of, Aim, Rises, IsSpent, IsBlocked}
+use Rattle.dinic_flow.specs.Phases.{AreBlocked, IsPhase, Sends}
 
 -- A cursor that is put elsewhere is there, and every other one where it was.
 cursor-moved : (cursor : List ℕ) (router v r : ℕ) → router < length cursor → get_or cursor router 0 ≤ v →
@@ -32,6 +33,11 @@ cursor-moved cursor router v r within later = elim (cases_eq r router) [
       let other = get_or-set_other cursor router r v 0 apart in
       (omega (arith, other), λ _. other)
 ]
+
+-- An arc that doesn't lead on is blocked.
+pub blocked-level : (aim : Aim) (now : Moment) (arc : ℕ) → (Rises now.view.net aim.label arc → ⊥) →
+    IsBlocked aim now arc
+blocked-level aim now arc level leads = absurd (level leads)
 
 -- A router that was spent stays so, if no cursor goes past a router's arcs.
 blocked-moved : (aim : Aim) (now : Moment) (new : List ℕ) (arc : ℕ) →

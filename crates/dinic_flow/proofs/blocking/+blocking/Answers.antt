@@ -9,32 +9,35 @@ use Rattle.residual_graph.specs.Places.{place_at}
 use Rattle.residual_graph.specs.View.{ResidualView, left_on}
 use Rattle.dinic_flow.specs.Phases.{Moment, moment_of, Aim, aim_of, IsSpent, IsBlocked, tally_of}
 use Rattle.dinic_flow.proofs.Relays.{is_over, over-sends, over-blocked, phase-push, place_at-head}
-use Rattle.dinic_flow.proofs.Advancing.{unspent, below-top}
+use Rattle.dinic_flow.proofs.Advancing.{blocked-level, unspent, below-top}
 use Rattle.dinic_flow.proofs.Paying.{pays-place}
 use Rattle.dinic_flow.proofs.Passing.{passing-net, is_next, passing-more, passing-on}
 use Rattle.dinic_flow.proofs.Passing.{levels_above, passed-phase, passed-sends, passed-costs, last-costs}
 use Rattle.dinic_flow.proofs.blocking.+blocking.Goals as goal
 
 pub send_over-returns-then-label-place-clause-blocked : goal.send_over-returns-then-label-place-clause-blocked
-send_over-returns-then-label-place-clause-blocked g t c = λ _ leads.
-    let net = c.args.graph.now.net in
+send_over-returns-then-label-place-clause-blocked g t c = λ _.
+    let aim : Aim = aim_of c.args.threshold c.args.t c.args.label.now in
+    let now : Moment = moment_of c.args.graph.now c.args.cursor.now in
+    let net : Net = now.view.net in
     let head : c.place-place.result.head ≡ head_of net (place_at net c.args.at).arc =
     ap (λ (p : Place). p.head) c.place-place.ensures.value ∙ place_at-head net c.args.at in
-    absurd (c.if-label-place.true (ap (λ (r : ℕ). get_or c.args.label.now r 0) head ∙ leads ∙ sym c.requires.next))
+    blocked-level aim now (place_at net c.args.at).arc
+    (λ leads. c.if-label-place.true (ap (λ (r : ℕ). get_or aim.label r 0) head ∙ leads ∙ sym c.requires.next))
 
 pub send_over-returns-then-cursor-place-clause-blocked : goal.send_over-returns-then-cursor-place-clause-blocked
 send_over-returns-then-cursor-place-clause-blocked g t c = λ _ leads.
-    let net = c.args.graph.now.net in
+    let aim : Aim = aim_of c.args.threshold c.args.t c.args.label.now in
+    let now : Moment = moment_of c.args.graph.now c.args.cursor.now in
+    let net : Net = now.view.net in
     let arc : ℕ = (place_at net c.args.at).arc in
     let is_arc : c.place-place.result.arc ≡ arc = ap (λ (p : Place). p.arc) c.place-place.ensures.value in
     let within : arc < arc_count net = subst (λ (x : ℕ). x < arc_count net) is_arc c.place-place.ensures.arc in
     let head : c.place-place.result.head ≡ head_of net arc =
     ap (λ (p : Place). p.head) c.place-place.ensures.value ∙ place_at-head net c.args.at in
-    let spent : IsSpent net c.args.cursor.now (head_of net arc) =
-    subst (λ (r : ℕ). IsSpent net c.args.cursor.now r) head (c.if-cursor-place.true ∙ c.begin.ensures.value) in
-    let apart = unspent (aim_of c.args.threshold c.args.t c.args.label.now)
-    (moment_of c.args.graph.now c.args.cursor.now) arc c.requires.phase within spent in
-    inr (apart, spent)
+    let spent : IsSpent net now.cursor (head_of net arc) =
+    subst (λ (r : ℕ). IsSpent net now.cursor r) head (c.if-cursor-place.true ∙ c.begin.ensures.value) in
+    inr (unspent aim now arc c.requires.phase within spent, spent)
 
 pub send_over-returns-clause-phase : goal.send_over-returns-clause-phase
 send_over-returns-clause-phase g t c =
