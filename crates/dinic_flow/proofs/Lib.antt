@@ -20,3 +20,4 @@ pub mod Flows
 pub mod Growing
 pub mod OpenArcs
 pub mod Sides
+pub mod Examples
