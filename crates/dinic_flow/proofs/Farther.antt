@@ -16,55 +16,53 @@ use Rattle.dinic_flow.specs.Levels.{OpenArc, Walk, IsFartherThan, height, IsLeve
 use Rattle.dinic_flow.specs.Phases.{Moment, Aim, Rises, IsSpent, IsBlocked, IsPhase, Tally, Costs}
 use Rattle.dinic_flow.proofs.Relays.{height-label}
 
+-- The levels of a phase, in a residual graph.
+abbrev HasLevels : Aim → ResidualView → Type 0
+HasLevels aim view = IsLevelled view aim.threshold aim.t aim.label
+
 -- An open arc rises by one level at most.
-arc-rises : (view : ResidualView) (threshold t u v : ℕ) (label : List ℕ)
-    (levelled : IsLevelled view threshold t label) →
-    OpenArc view threshold u v → height levelled.mid label v ≤ height levelled.mid label u + 1
-arc-rises view threshold t u v label levelled arc =
-    rw (arc.tail, arc.head) at (levelled.rises arc.arc arc.within arc.is_open)
+arc-rises : (aim : Aim) (view : ResidualView) (levelled : HasLevels aim view) (u v : ℕ) →
+    OpenArc view aim.threshold u v → height levelled.mid aim.label v ≤ height levelled.mid aim.label u + 1
+arc-rises aim view levelled u v arc = rw (arc.tail, arc.head) at (levelled.rises arc.arc arc.within arc.is_open)
 
 -- One that leaves a router without a label doesn't rise.
-arc-stays : (view : ResidualView) (threshold t u v : ℕ) (label : List ℕ)
-    (levelled : IsLevelled view threshold t label) →
-    OpenArc view threshold u v → get_or label u 0 ≡ 0 → height levelled.mid label v ≤ levelled.mid
-arc-stays view threshold t u v label levelled arc none =
+arc-stays : (aim : Aim) (view : ResidualView) (levelled : HasLevels aim view) (u v : ℕ) →
+    OpenArc view aim.threshold u v → get_or aim.label u 0 ≡ 0 → height levelled.mid aim.label v ≤ levelled.mid
+arc-stays aim view levelled u v arc none =
     rw arc.head at (levelled.stays arc.arc arc.within arc.is_open (rw arc.tail none))
 
 -- A walk to t has as many arcs as it is high, or more.
-climbs : (view : ResidualView) (threshold t : ℕ) (label : List ℕ) (levelled : IsLevelled view threshold t label) →
-    0 < get_or label t 0 → (arcs u : ℕ) → Walk view threshold arcs u t →
-    get_or label t 0 ≤ height levelled.mid label u + arcs
-climbs view threshold t label levelled some zero u is =
-    omega (arith, height-label levelled.mid label t some, ap (λ (r : ℕ). height levelled.mid label r) is)
-climbs view threshold t label levelled some (suc arcs) u (w, arc, rest) =
+climbs : (aim : Aim) (view : ResidualView) (levelled : HasLevels aim view) → 0 < get_or aim.label aim.t 0 →
+    (arcs u : ℕ) → Walk view aim.threshold arcs u aim.t →
+    get_or aim.label aim.t 0 ≤ height levelled.mid aim.label u + arcs
+climbs aim view levelled some zero u is =
     omega (
       arith,
-      climbs view threshold t label levelled some arcs w rest,
-      arc-rises view threshold t u w label
-          levelled arc,
+      height-label levelled.mid aim.label aim.t some,
+      ap (λ (r : ℕ). height levelled.mid aim.label r) is,
     )
+climbs aim view levelled some (suc arcs) u (w, arc, rest) =
+    omega (arith, climbs aim view levelled some arcs w rest, arc-rises aim view levelled u w arc)
 
 -- A router without a label is at the middle height.
 height-none : (mid : ℕ) (label : List ℕ) (r : ℕ) → get_or label r 0 ≡ 0 → height mid label r ≡ mid
 height-none mid label r none = rw (eq-eqb (get_or label r 0) 0 none) refl
 
 -- On a walk to t that rises by one level at each arc, each router has a label.
-labelled : (view : ResidualView) (threshold t : ℕ) (label : List ℕ) (levelled : IsLevelled view threshold t label) →
-    0 < get_or label t 0 → (arcs u : ℕ) → Walk view threshold arcs u t →
-    get_or label t 0 ≡ height levelled.mid label u + arcs → 0 < get_or label u 0
-labelled view threshold t label levelled some zero u is steep =
-    omega (arith, some, ap (λ (r : ℕ). get_or label r 0) is)
-labelled view threshold t label levelled some (suc arcs) u (w, arc, rest) steep = elim
-    (cases_eq (get_or label u 0) 0) [
-      | inr ne ↦ omega arith
-      | inl none ↦ absurd (omega (
-        arith,
-        climbs view threshold t label levelled some arcs w rest,
-        arc-stays view threshold t u w label levelled arc none,
-        height-none levelled.mid label u none,
-        steep,
-      ))
-    ]
+labelled : (aim : Aim) (view : ResidualView) (levelled : HasLevels aim view) → 0 < get_or aim.label aim.t 0 →
+    (arcs u : ℕ) → Walk view aim.threshold arcs u aim.t →
+    get_or aim.label aim.t 0 ≡ height levelled.mid aim.label u + arcs → 0 < get_or aim.label u 0
+labelled aim view levelled some zero u is steep = omega (arith, some, ap (λ (r : ℕ). get_or aim.label r 0) is)
+labelled aim view levelled some (suc arcs) u (w, arc, rest) steep = elim (cases_eq (get_or aim.label u 0) 0) [
+  | inr ne ↦ omega arith
+  | inl none ↦ absurd (omega (
+    arith,
+    climbs aim view levelled some arcs w rest,
+    arc-stays aim view levelled u w arc none,
+    height-none levelled.mid aim.label u none,
+    steep,
+  ))
+]
 
 -- No arc is both closed and open.
 closed-open : (x : ℤ) (threshold : ℕ) → x <ℤ pos threshold → pos threshold ≤ℤ x → ⊥
@@ -80,13 +78,12 @@ stuck aim now phase some (suc arcs) u (w, arc, rest) steep apart small spent =
     let view : ResidualView = now.view in
     let label : List ℕ = aim.label in
     let mid : ℕ = phase.levelled.mid in
-    let above = climbs view aim.threshold aim.t label phase.levelled some arcs w rest in
-    let below = arc-rises view aim.threshold aim.t u w label phase.levelled arc in
+    let above = climbs aim view phase.levelled some arcs w rest in
+    let below = arc-rises aim view phase.levelled u w arc in
     let steep_on : get_or label aim.t 0 ≡ height mid label w + arcs = omega (arith, above, below, steep) in
-    let low = height-label mid label u
-    (labelled view aim.threshold aim.t label phase.levelled some (suc arcs) u (w, arc, rest) steep) in
-    let high = height-label mid label w
-    (labelled view aim.threshold aim.t label phase.levelled some arcs w rest steep_on) in
+    let low =
+    height-label mid label u (labelled aim view phase.levelled some (suc arcs) u (w, arc, rest) steep) in
+    let high = height-label mid label w (labelled aim view phase.levelled some arcs w rest steep_on) in
     let on : get_or label w 0 ≡ get_or label u 0 + 1 = omega (arith, low, high, steep, steep_on) in
     let leads : Rises view.net label arc.arc = rw (arc.tail, arc.head) on in
     let (at, from, to, is) = arc-between view.net phase.sound.limits arc.arc arc.within in
@@ -111,7 +108,7 @@ farther aim now s phase start apart small spent arcs walk =
     let label : List ℕ = aim.label in
     let some : 0 < get_or label aim.t 0 = omega (arith, phase.levelled.most s, start) in
     let low = height-label phase.levelled.mid label s (omega arith) in
-    let above = climbs now.view aim.threshold aim.t label phase.levelled some arcs s walk in
+    let above = climbs aim now.view phase.levelled some arcs s walk in
     elim (cases_lt (get_or label aim.t 0 - 1) arcs) [
       | inl less ↦ less
       | inr short ↦
@@ -124,7 +121,7 @@ farther aim now s phase start apart small spent arcs walk =
 
 -- Cursors at each router's first place are a state of a phase.
 pub phase-begun : (aim : Aim) (now : Moment) → IsSound now.view →
-    IsLevelled now.view aim.threshold aim.t aim.label → aim.t < now.view.net.routers →
+    HasLevels aim now.view → aim.t < now.view.net.routers →
     length now.cursor ≡ now.view.net.routers →
     ((r : ℕ) → r < now.view.net.routers → get_or now.cursor r 0 ≡ begin_of now.view.net r) → IsPhase aim now
 phase-begun aim now sound levelled small size begun = record {

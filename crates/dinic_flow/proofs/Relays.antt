@@ -101,11 +101,11 @@ height-label mid label r some = elim (cases_eq (get_or label r 0) 0) [
 ]
 
 -- An arc that is open after a push was open before, or leads a level back.
-open-before : (before after : ResidualView) (label : List ℕ) (threshold arc amount other : ℕ) →
-    IsPush before after label arc amount → IsOpen after threshold other →
-    IsOpen before threshold other ⊎ IsTwin before.net other arc
-open-before before after label threshold arc amount other push is_open =
-    elim (push-falls before after label arc amount other push) [
+open-before : (aim : Aim) (before after : ResidualView) (arc amount other : ℕ) →
+    IsPush before after aim.label arc amount → IsOpen after aim.threshold other →
+    IsOpen before aim.threshold other ⊎ IsTwin before.net other arc
+open-before aim before after arc amount other push is_open =
+    elim (push-falls before after aim.label arc amount other push) [
       | inl falls ↦ inl (le-twice _ _ _ is_open falls)
       | inr twin ↦ inr twin
     ]
@@ -125,16 +125,14 @@ levelled-push aim before after arc amount push some old =
       few = rw net old.few;
       most = old.most;
       only = old.only;
-      rises = λ other within is_open. elim (open-before before after label aim.threshold arc amount other push
-          is_open) [
-            | inl was ↦ rw net (old.rises other (rw net at within) was)
-            | inr twin ↦ rw (net, twin.head, twin.tail) (omega (arith, low, high, push.leads))
-          ];
-      stays = λ other within is_open none. elim (open-before before after label aim.threshold arc amount other push
-          is_open) [
-            | inl was ↦ rw net (old.stays other (rw net at within) was (rw net at none))
-            | inr twin ↦ absurd (omega (arith, rw (net, twin.tail) at none, push.leads))
-          ];
+      rises = λ other within is_open. elim (open-before aim before after arc amount other push is_open) [
+        | inl was ↦ rw net (old.rises other (rw net at within) was)
+        | inr twin ↦ rw (net, twin.head, twin.tail) (omega (arith, low, high, push.leads))
+      ];
+      stays = λ other within is_open none. elim (open-before aim before after arc amount other push is_open) [
+        | inl was ↦ rw net (old.stays other (rw net at within) was (rw net at none))
+        | inr twin ↦ absurd (omega (arith, rw (net, twin.tail) at none, push.leads))
+      ];
     }
 
 -- What is blocked stays blocked after a push along an arc that leads on.
