@@ -70,14 +70,18 @@ pub passing-more : (aim : Aim) (start now after : Moment) (router sent more at :
 passing-more aim start now after router sent more at passing next phase sends own =
     let sent_on : Sends aim now after router more =
     subst (λ (r : ℕ). Sends aim now after r more) next.leaves.tail sends in
+    let inside : (p : ℕ) → get_or start.cursor router 0 ≤ p → p < at →
+    (place_at now.view.net p).arc < arc_count now.view.net = λ p low high.
+    (between-is now.view.net passing.phase.sound.limits router p next.small (omega (arith, next.from, low))
+    (omega (arith, next.high, high))).arc in
     record {
       sender = passing.sender;
       phase = phase;
       low = passing.low;
       sends = sends-both aim start now after router sent more passing.sends sent_on;
       own = subst (λ (r : ℕ). get_or after.cursor r 0 ≡ get_or now.cursor r 0) next.leaves.tail own ∙ passing.own;
-      blocked = passed-later aim now after router more (get_or start.cursor router 0) at sent_on phase
-          passing.phase.sound.limits next.small next.from (omega (arith, next.high)) passing.blocked;
+      blocked = passed-later aim now after router more (get_or start.cursor router 0) at sent_on phase inside
+          passing.blocked;
     }
 
 -- A place whose arc is blocked is passed.

@@ -4,13 +4,12 @@ use Rattle.std.proofs.Common.{sym, ◌∙◌, ap, subst, arith, refl, inl, inr}
 use Rattle.std.specs.Prelude.{◌==◌, ℤ, pos, ◌+ℤ◌, ◌-ℤ◌, ◌≤ℤ◌, ◌<ℤ◌}
 use Rattle.std.proofs.lemmas.Int.{ints}
 use Rattle.std.proofs.lemmas.Bool.{cases_eq, cases_lt, cases_Bool, ne_eqb}
-use Rattle.cut_model.specs.Net.{Net, IsInLimits}
+use Rattle.cut_model.specs.Net.{Net}
 use Rattle.cut_model.specs.Flow.{out}
 use Rattle.residual_graph.specs.declared.place.Place.{Place}
 use Rattle.residual_graph.specs.Arcs.{tail_of, head_of, arc_count}
-use Rattle.residual_graph.specs.Places.{IsPlaceOf, begin_of, place_at}
+use Rattle.residual_graph.specs.Places.{place_at}
 use Rattle.residual_graph.specs.View.{ResidualView, IsSound, left_on, pushed}
-use Rattle.residual_graph.proofs.ByPlace.{between-is}
 use Rattle.residual_graph.proofs.Listed.{head_below}
 use Rattle.dinic_flow.specs.Levels.{IsOpen, height, IsLevelled}
 use Rattle.dinic_flow.specs.Sending.{only_at}
@@ -363,16 +362,13 @@ over-blocked aim before between after arc amount left limit over some is below s
           (push-own mid after aim.label arc amount over.push) (omega (arith, below, all)) some)
     ]
 
--- The arcs that a router has passed stay blocked, whatever is sent.
+-- Arcs at places that are blocked stay blocked, whatever is sent.
 pub passed-later : (aim : Aim) (before after : Moment) (router amount from to : ℕ) →
     Sends aim before after router amount → IsPhase aim after →
-    IsInLimits before.view.net → router < before.view.net.routers →
-    begin_of before.view.net router ≤ from → to ≤ begin_of before.view.net (router + 1) →
+    ((at : ℕ) → from ≤ at → at < to → (place_at before.view.net at).arc < arc_count before.view.net) →
     AreBlocked aim before from to → AreBlocked aim after from to
-passed-later aim before after router amount from to sent phase limits small start end passed at low high =
-    let was : Net = before.view.net in
-    let net : after.view.net ≡ was = ap (λ (v : ResidualView). v.net) sent.same in
-    let leaves : IsPlaceOf was router (place_at was at) =
-    between-is was limits router at small (omega arith) (omega arith) in
+passed-later aim before after router amount from to sent phase inside passed at low high =
+    let net : after.view.net ≡ before.view.net = ap (λ (v : ResidualView). v.net) sent.same in
     subst (λ (n : Net). IsBlocked aim after (place_at n at).arc) (sym net)
-    (blocked-later aim before after router amount (place_at was at).arc sent phase leaves.arc (passed at low high))
+    (blocked-later aim before after router amount (place_at before.view.net at).arc sent phase (inside at low high)
+    (passed at low high))
