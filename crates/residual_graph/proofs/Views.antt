@@ -8,9 +8,9 @@ use Rattle.std.proofs.lemmas.Int.{ints}
 use Rattle.std.proofs.lemmas.List.FromFn.{length-map-range_with_len, get_or-map-range_with_len}
 use Rattle.cut_model.specs.declared.network.Link.{Link}
 use Rattle.cut_model.specs.Flow.{IsWithinCaps}
-use Rattle.residual_graph.specs.Arcs.{no_link}
+use Rattle.residual_graph.specs.Arcs.{no_link, arc_count}
 use Rattle.residual_graph.specs.View.{ResidualView, left_on}
-use Rattle.residual_graph.specs.Storage.{flow_at, flows_at, view_of, ArePairs}
+use Rattle.residual_graph.specs.Storage.{Lists, flow_at, flows_at, net_in, view_of, ArePairs}
 
 -- ---- the flows
 
@@ -37,43 +37,42 @@ left_back : (c x y : ℕ) → x + y ≡ 2 * c → (pos c +ℤ (pos c -ℤ pos x)
 left_back c x y both = omega (arith, ints)
 
 -- so the stored number is what is left on the arc there
-left_on-there : (room_routers room_links routers : ℕ) (links : List Link) (left : List ℕ) (i : ℕ) → i < length links
-    → left_on (view_of room_routers room_links routers links left) (2 * i) ≡ pos (get_or left (2 * i) 0)
+left_on-there : (lists : Lists) (i : ℕ) → i < length (net_in lists).links
+    → left_on (view_of lists) (2 * i) ≡ pos (get_or lists.left (2 * i) 0)
 unfolding view_of left_on
-left_on-there room_routers room_links routers links left i low =
+left_on-there lists i low =
+    let links = (net_in lists).links in
     let even : 2 * i % 2 ≡ 0 = omega arith in
     let half : 2 * i / 2 ≡ i = omega arith in
-    rw (even, half, get_or-flows_at links left i low)
-    (left_there (get_or links i no_link).cap (get_or left (2 * i) 0))
+    rw (even, half, get_or-flows_at links lists.left i low)
+    (left_there (get_or links i no_link).cap (get_or lists.left (2 * i) 0))
 
 -- and on the arc back
-left_on-back : (room_routers room_links routers : ℕ) (links : List Link) (left : List ℕ) (i : ℕ) → i < length links
-    → get_or left (2 * i) 0 + get_or left (2 * i + 1) 0 ≡ 2 * (get_or links i no_link).cap
-    → left_on (view_of room_routers room_links routers links left) (2 * i + 1) ≡ pos (get_or left (2 * i + 1) 0)
+left_on-back : (lists : Lists) → ArePairs (net_in lists).links lists.left → (i : ℕ)
+    → i < length (net_in lists).links → left_on (view_of lists) (2 * i + 1) ≡ pos (get_or lists.left (2 * i + 1) 0)
 unfolding view_of left_on
-left_on-back room_routers room_links routers links left i low both =
+left_on-back lists pairs i low =
+    let links = (net_in lists).links in
     let odd : (2 * i + 1) % 2 ≡ 1 = omega arith in
     let half : (2 * i + 1) / 2 ≡ i = omega arith in
-    rw (odd, half, get_or-flows_at links left i low)
-    (left_back (get_or links i no_link).cap (get_or left (2 * i) 0) (get_or left (2 * i + 1) 0) both)
+    rw (odd, half, get_or-flows_at links lists.left i low)
+    (left_back (get_or links i no_link).cap (get_or lists.left (2 * i) 0) (get_or lists.left (2 * i + 1) 0)
+    (pairs i low))
 
 -- an arc is the one there or the one back of its link
 pub there_or_back : (arc : ℕ) → (arc ≡ 2 * (arc / 2)) ⊎ (arc ≡ 2 * (arc / 2) + 1)
 there_or_back arc = elim (cases_eq (arc % 2) 0) [ inl even ↦ inl (omega arith) | inr odd ↦ inr (omega arith) ]
 
 -- so it is on each arc
-pub left_is : (room_routers room_links routers : ℕ) (links : List Link) (left : List ℕ) → ArePairs links left
-    → (arc : ℕ) → arc < 2 * length links
-    → left_on (view_of room_routers room_links routers links left) arc ≡ pos (get_or left arc 0)
-left_is room_routers room_links routers links left pairs arc low = elim (there_or_back arc) [
+pub left_is : (lists : Lists) → ArePairs (net_in lists).links lists.left → (arc : ℕ) → arc < arc_count (net_in lists)
+    → left_on (view_of lists) arc ≡ pos (get_or lists.left arc 0)
+left_is lists pairs arc low = elim (there_or_back arc) [
   | inl there ↦
-      subst (λ k. left_on (view_of room_routers room_links routers links left) k ≡ pos (get_or left k 0))
-      (sym there)
-      (left_on-there room_routers room_links routers links left (arc / 2) (omega arith))
+      subst (λ k. left_on (view_of lists) k ≡ pos (get_or lists.left k 0)) (sym there)
+      (left_on-there lists (arc / 2) (omega arith))
   | inr back ↦
-      subst (λ k. left_on (view_of room_routers room_links routers links left) k ≡ pos (get_or left k 0))
-      (sym back)
-      (left_on-back room_routers room_links routers links left (arc / 2) (omega arith) (pairs (arc / 2) (omega arith)))
+      subst (λ k. left_on (view_of lists) k ≡ pos (get_or lists.left k 0)) (sym back)
+      (left_on-back lists pairs (arc / 2) (omega arith))
 ]
 
 -- ---- the flow is within the capacities
@@ -107,22 +106,18 @@ flows_within links left pairs =
 -- ---- the parts of a view
 
 -- its network
-pub net_is : (room_routers room_links routers : ℕ) (links : List Link) (left : List ℕ) (view : ResidualView)
-    → view_of room_routers room_links routers links left ≡ view
-    → record { routers = routers; links = links } ≡ view.net
+pub net_is : (lists : Lists) (view : ResidualView) → view_of lists ≡ view → net_in lists ≡ view.net
 unfolding view_of
-net_is room_routers room_links routers links left view e = ap (λ (v : ResidualView). v.net) e
+net_is lists view e = ap (λ (v : ResidualView). v.net) e
 
 -- its flow
-pub flow_is : (room_routers room_links routers : ℕ) (links : List Link) (left : List ℕ) (view : ResidualView)
-    → view_of room_routers room_links routers links left ≡ view → flows_at links left ≡ view.flow
+pub flow_is : (lists : Lists) (view : ResidualView) → view_of lists ≡ view
+    → flows_at (net_in lists).links lists.left ≡ view.flow
 unfolding view_of
-flow_is room_routers room_links routers links left view e = ap (λ (v : ResidualView). v.flow) e
+flow_is lists view e = ap (λ (v : ResidualView). v.flow) e
 
 -- its room
-pub rooms_are : (room_routers room_links routers : ℕ) (links : List Link) (left : List ℕ) (view : ResidualView)
-    → view_of room_routers room_links routers links left ≡ view
-    → (room_routers ≡ view.room_routers) × (room_links ≡ view.room_links)
+pub rooms_are : (lists : Lists) (view : ResidualView) → view_of lists ≡ view
+    → (lists.room_routers ≡ view.room_routers) × (lists.room_links ≡ view.room_links)
 unfolding view_of
-rooms_are room_routers room_links routers links left view e =
-    (ap (λ (v : ResidualView). v.room_routers) e, ap (λ (v : ResidualView). v.room_links) e)
+rooms_are lists view e = (ap (λ (v : ResidualView). v.room_routers) e, ap (λ (v : ResidualView). v.room_links) e)

@@ -46,13 +46,31 @@ impl Model for Residual {
 
     ghost Value = { ResidualView };
 
-    ghost use Rattle.std.specs.Prelude.{take};
     ghost use Rattle.residual_graph.specs.Storage.{view_of, IsStored};
 
-    ghost view = { λ r. view_of r.room_routers r.room_links r.routers (take r.links r.kept.items) r.left.items };
+    ghost view = { λ r. view_of (record {
+      room_routers = r.room_routers;
+      room_links = r.room_links;
+      routers = r.routers;
+      links = r.links;
+      first = r.first.items;
+      places = r.places.items;
+      kept = r.kept.items;
+      left = r.left.items;
+      touched = r.touched;
+    }) };
 
-    ghost invariant = { λ r. IsStored r.room_routers r.room_links r.routers r.links
-        r.first.items r.places.items r.kept.items r.left.items r.touched };
+    ghost invariant = { λ r. IsStored (record {
+      room_routers = r.room_routers;
+      room_links = r.room_links;
+      routers = r.routers;
+      links = r.links;
+      first = r.first.items;
+      places = r.places.items;
+      kept = r.kept.items;
+      left = r.left.items;
+      touched = r.touched;
+    }) };
 }
 
 impl Residual {

@@ -10,7 +10,7 @@ pub returns-then-self-routers : goal.returns-then-self-routers
 returns-then-self-routers c =
     let links = take c.self.inside.links c.self.inside.kept.items in
     let held = held_is c.self.inside.routers links c.args.self.now.net c.args.net.now
-    (net_is _ _ c.self.inside.routers links _ c.args.self.now c.self.view_is)
+    (net_is _ c.args.self.now c.self.view_is)
     (c.if-self-routers.true ∙ c.routers.ensures.value) in
     let mine = ap (take c.self.inside.links) c.deref.ensures.value in (
       λ same. held.0 (sym mine ∙ c.is_same.ensures.0 same ∙ c.links.ensures.value),

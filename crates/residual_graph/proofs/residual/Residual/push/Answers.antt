@@ -48,7 +48,8 @@ returns-clause-value g c =
     let same = written c.self.inside.left.len c.move_amount.new.left
     (drop (length c.move_amount.new.left) c.self.inside.left.items)
     (omega (arith, c.deref_mut.ensures.len)) in
-    rw (same, c.move_amount.ensures, c.deref_mut.ensures.value) at.view_is
+    rw (same, c.move_amount.ensures, c.deref_mut.ensures.value, c.note_if.ensures)
+    (at.view_is (eqb c.index.result.now c.index-2.result.now))
 
 pub returns-clause-sound : goal.returns-clause-sound
 returns-clause-sound g c = sound_of (invariant_of-self g c) _ refl

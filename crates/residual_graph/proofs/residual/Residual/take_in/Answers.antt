@@ -1,5 +1,6 @@
 use Rattle.std.proofs.Common.{◌++◌, length, take, drop, refl, ap, ◌∙◌, arith}
 use Rattle.std.proofs.lemmas.List.{take-append-le, take_all}
+use Rattle.residual_graph.specs.Storage.{Lists}
 use Rattle.residual_graph.specs.Touched.{Touches}
 use Rattle.residual_graph.proofs.Reading.{sound_of}
 use Rattle.residual_graph.proofs.Stored.{IsFresh, fresh_stored, fresh_view, written}
@@ -8,7 +9,7 @@ use Rattle.residual_graph.proofs.residual.Residual.take_in.Goals as goal
 
 pub keep-requires : goal.keep-requires
 keep-requires c =
-    let room = rooms_are _ _ _ _ _ _ c.self.view_is in
+    let room = rooms_are _ c.args.self.now c.self.view_is in
     omega (
       arith,
       room.1,
@@ -20,7 +21,7 @@ keep-requires c =
 
 pub index_arcs-requires-clause-first : goal.index_arcs-requires-clause-first
 index_arcs-requires-clause-first c =
-    let room = rooms_are _ _ _ _ _ _ c.self.view_is in
+    let room = rooms_are _ c.args.self.now c.self.view_is in
     omega (
       arith,
       room.0,
@@ -30,19 +31,28 @@ index_arcs-requires-clause-first c =
       c.self.invariant.first_room,
     )
 
--- the lists are those of the network without a flow
-fresh : (c : goal.After-clear)
-    → IsFresh c.self.inside.room_routers c.self.inside.room_links c.routers-self-inside.result
-    (length c.links-links.result.now)
-    (take c.self.inside.first.len
-    (c.index_arcs.new.first ++ drop (length c.index_arcs.new.first) c.self.inside.first.items))
-    (take c.self.inside.places.len
-    (c.index_arcs.new.places ++ drop (length c.index_arcs.new.places) c.self.inside.places.items))
-    (take c.self.inside.kept.len (c.keep.new.kept ++ drop (length c.keep.new.kept) c.self.inside.kept.items))
-    (take c.self.inside.left.len (c.set_left.new.left ++ drop (length c.set_left.new.left) c.self.inside.left.items))
-    c.clear.new.self c.args.net.now
+-- the lists as they are written
+abbrev lists_now : goal.After-clear → Lists
+lists_now c = record {
+  room_routers = c.self.inside.room_routers;
+  room_links = c.self.inside.room_links;
+  routers = c.routers-self-inside.result;
+  links = length c.links-links.result.now;
+  first = take c.self.inside.first.len
+      (c.index_arcs.new.first ++ drop (length c.index_arcs.new.first) c.self.inside.first.items);
+  places = take c.self.inside.places.len
+      (c.index_arcs.new.places ++ drop (length c.index_arcs.new.places) c.self.inside.places.items);
+  kept = take c.self.inside.kept.len
+      (c.keep.new.kept ++ drop (length c.keep.new.kept) c.self.inside.kept.items);
+  left = take c.self.inside.left.len
+      (c.set_left.new.left ++ drop (length c.set_left.new.left) c.self.inside.left.items);
+  touched = c.clear.new.self;
+}
+
+-- are those of the network without a flow
+fresh : (c : goal.After-clear) → IsFresh (lists_now c) c.args.net.now
 fresh c =
-    let room = rooms_are _ _ _ _ _ _ c.self.view_is in
+    let room = rooms_are _ c.args.self.now c.self.view_is in
     let stored = c.self.invariant in
     let links = c.links-links.ensures.value in
     let routers = c.routers-self-inside.ensures.value in
@@ -84,10 +94,12 @@ pub invariant_of-self : goal.invariant_of-self
 invariant_of-self c = fresh_stored (fresh c)
 
 pub returns-clause-room_routers : goal.returns-clause-room_routers
-returns-clause-room_routers c = (fresh_view (fresh c)).room_routers_are ∙ (rooms_are _ _ _ _ _ _ c.self.view_is).0
+returns-clause-room_routers c =
+    (fresh_view (fresh c)).room_routers_are ∙ (rooms_are _ c.args.self.now c.self.view_is).0
 
 pub returns-clause-room_links : goal.returns-clause-room_links
-returns-clause-room_links c = (fresh_view (fresh c)).room_links_are ∙ (rooms_are _ _ _ _ _ _ c.self.view_is).1
+returns-clause-room_links c =
+    (fresh_view (fresh c)).room_links_are ∙ (rooms_are _ c.args.self.now c.self.view_is).1
 
 pub returns-clause-net : goal.returns-clause-net
 returns-clause-net c = (fresh_view (fresh c)).net_is

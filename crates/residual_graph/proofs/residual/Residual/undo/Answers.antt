@@ -16,7 +16,7 @@ restored c =
 
 pub returns-clause-value : goal.returns-clause-value
 returns-clause-value c =
-    undone_view _ _ _ _ c.self.inside.left.items _ c.args.self.now c.self.view_is (restored c)
+    undone_view _ _ c.clear.new.self c.args.self.now c.self.view_is (restored c)
 
 pub invariant_of-self : goal.invariant_of-self
 invariant_of-self c =
