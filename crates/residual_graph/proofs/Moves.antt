@@ -212,21 +212,44 @@ pushed-back links left j amount low =
     more_back : (c x amount : ℕ) → (pos c -ℤ pos (x + amount)) ≡ ((pos c -ℤ pos x) +ℤ neg_ℤ (pos amount))
     more_back c x amount = omega (arith, ints)
 
--- What a push of an amount along an arc needs, and what it makes. Link j is the arc's.
-pub record IsPush (links : List Link) (left : List ℕ) (j arc other amount : ℕ) : Type 0 where
-  pub apart : arc ≢ other
-  pub inside : other < length left
-  pub room : get_or left other 0 + amount < 2 ^ 64
-  pub size : length (after left arc other amount) ≡ length left
-  pub pairs : ArePairs links (after left arc other amount)
-  pub flows : flows_at links (after left arc other amount) ≡ pushed (flows_at links left) arc amount
-  pub caps : (i : ℕ) → i ≢ j → HasCap links left i → HasCap links (after left arc other amount) i
-  pub differ : get_or left arc 0 ≢ get_or left other 0 → HasCap links left j → ⊥
+-- A push of an amount along an arc: its link, and the arc of that link the other way.
+pub record Push : Type 0 where
+  pub link : ℕ
+  pub arc : ℕ
+  pub other : ℕ
+  pub amount : ℕ
+
+-- What is left after a push.
+abbrev pub left_after : List ℕ → Push → List ℕ
+left_after left push = after left push.arc push.other push.amount
+
+-- What a push needs, and what it makes.
+pub record IsPush (links : List Link) (left : List ℕ) (push : Push) : Type 0 where
+  pub apart : push.arc ≢ push.other
+  pub inside : push.other < length left
+  pub room : get_or left push.other 0 + push.amount < 2 ^ 64
+  pub size : length (left_after left push) ≡ length left
+  pub pairs : ArePairs links (left_after left push)
+  pub flows : flows_at links (left_after left push) ≡ pushed (flows_at links left) push.arc push.amount
+  pub caps : (i : ℕ) → i ≢ push.link → HasCap links left i → HasCap links (left_after left push) i
+  pub differ : get_or left push.arc 0 ≢ get_or left push.other 0 → HasCap links left push.link → ⊥
+
+-- The push along the arc there of a link.
+abbrev along_there : ℕ → ℕ → Push
+along_there j amount = record { link = j; arc = 2 * j; other = 2 * j + 1; amount = amount }
+
+-- The push along its arc back.
+abbrev along_back : ℕ → ℕ → Push
+along_back j amount = record { link = j; arc = 2 * j + 1; other = 2 * j; amount = amount }
+
+-- The push along any arc, whose last bit turned is the other one.
+abbrev pub along_arc : ℕ → ℕ → Push
+along_arc arc amount = record { link = arc / 2; arc = arc; other = bit_xor arc 1; amount = amount }
 
 -- a push along the arc there
 push_there : (links : List Link) (left : List ℕ) (j amount : ℕ) → ArePairs links left
     → (get_or links j no_link).cap ≤ MOST_CAPACITY → j < length links → 2 * length links ≤ length left
-    → amount ≤ get_or left (2 * j) 0 → IsPush links left j (2 * j) (2 * j + 1) amount
+    → amount ≤ get_or left (2 * j) 0 → IsPush links left (along_there j amount)
 push_there links left j amount pairs cap low fits enough =
     let moved = after_there left j amount (omega arith) enough in record {
       apart = λ e. omega arith;
@@ -242,7 +265,7 @@ push_there links left j amount pairs cap low fits enough =
 -- a push along the arc back
 push_back : (links : List Link) (left : List ℕ) (j amount : ℕ) → ArePairs links left
     → (get_or links j no_link).cap ≤ MOST_CAPACITY → j < length links → 2 * length links ≤ length left
-    → amount ≤ get_or left (2 * j + 1) 0 → IsPush links left j (2 * j + 1) (2 * j) amount
+    → amount ≤ get_or left (2 * j + 1) 0 → IsPush links left (along_back j amount)
 push_back links left j amount pairs cap low fits enough =
     let moved = after_back left j amount (omega arith) enough in record {
       apart = λ e. omega arith;
@@ -259,20 +282,23 @@ push_back links left j amount pairs cap low fits enough =
 pub push_is : (links : List Link) (left : List ℕ) (arc amount : ℕ) → ArePairs links left
     → ((i : ℕ) → i < length links → (get_or links i no_link).cap ≤ MOST_CAPACITY)
     → arc < 2 * length links → 2 * length links ≤ length left
-    → amount ≤ get_or left arc 0 → IsPush links left (arc / 2) arc (bit_xor arc 1) amount
+    → amount ≤ get_or left arc 0 → IsPush links left (along_arc arc amount)
 push_is links left arc amount pairs cap low fits enough =
     elim (there_or_back arc) [
       | inl there ↦
-          subst (λ k. IsPush links left (arc / 2) k (bit_xor k 1) amount) (sym there)
-          (subst (λ t. IsPush links left (arc / 2) (2 * (arc / 2)) t amount) (sym (twin_there (arc / 2)))
+          subst (λ k. IsPush links left (push k (bit_xor k 1))) (sym there)
+          (subst (λ t. IsPush links left (push (2 * (arc / 2)) t)) (sym (twin_there (arc / 2)))
           (push_there links left (arc / 2) amount pairs (cap (arc / 2) (omega arith)) (omega arith) fits
           (subst (λ k. amount ≤ get_or left k 0) there enough)))
       | inr back ↦
-          subst (λ k. IsPush links left (arc / 2) k (bit_xor k 1) amount) (sym back)
-          (subst (λ t. IsPush links left (arc / 2) (2 * (arc / 2) + 1) t amount) (sym (twin_back (arc / 2)))
+          subst (λ k. IsPush links left (push k (bit_xor k 1))) (sym back)
+          (subst (λ t. IsPush links left (push (2 * (arc / 2) + 1) t)) (sym (twin_back (arc / 2)))
           (push_back links left (arc / 2) amount pairs (cap (arc / 2) (omega arith)) (omega arith) fits
           (subst (λ k. amount ≤ get_or left k 0) back enough)))
     ]
+  where
+    push : ℕ → ℕ → Push
+    push k other = record { link = arc / 2; arc = k; other = other; amount = amount }
 
 -- ---- which links are touched
 
@@ -290,36 +316,36 @@ noted_inside links touched still j low inside = elim (cases_Bool still) [
 ]
 
 -- after a push each link but the touched ones has its whole capacity still
-pub noted_caps : (links : List Link) (left : List ℕ) (j arc other amount : ℕ) (touched : Touches) (still : Bool)
-    → IsPush links left j arc other amount → (still ≡ false → get_or left arc 0 ≢ get_or left other 0)
+pub noted_caps : (links : List Link) (left : List ℕ) (push : Push) (touched : Touches) (still : Bool)
+    → IsPush links left push → (still ≡ false → get_or left push.arc 0 ≢ get_or left push.other 0)
     → (touched.all ≡ false → HasCapsBut links left touched.links)
-    → (noted_if still touched j).all ≡ false
-    → HasCapsBut links (after left arc other amount) (noted_if still touched j).links
-noted_caps links left j arc other amount touched true push differs before =
+    → (noted_if still touched push.link).all ≡ false
+    → HasCapsBut links (left_after left push) (noted_if still touched push.link).links
+noted_caps links left push touched true is differs before =
     elim (cases_Bool (nat_lt (length touched.links) touched.room)) [
       | inr full ↦ rw full (λ all. absurd (false≢true (sym all)))
-      | inl fits ↦ rw fits (λ some i low. elim (cases_eq i j) [
+      | inl fits ↦ rw fits (λ some i low. elim (cases_eq i push.link) [
         | inl e ↦ inr (
           length touched.links,
-          omega (arith, length-append touched.links (j ∷ [])),
-          get_or_push touched.links j 0 (length touched.links) refl ∙ sym e,
+          omega (arith, length-append touched.links (push.link ∷ [])),
+          get_or_push touched.links push.link 0 (length touched.links) refl ∙ sym e,
         )
         | inr ne ↦ elim (before some i low) [
-          | inl has ↦ inl (push.caps i ne has)
+          | inl has ↦ inl (is.caps i ne has)
           | inr listed ↦ inr (
             listed.0,
-            omega (arith, listed.1, length-append touched.links (j ∷ [])),
-            get_or_append_left touched.links (j ∷ []) 0 listed.0 listed.1 ∙ listed.2,
+            omega (arith, listed.1, length-append touched.links (push.link ∷ [])),
+            get_or_append_left touched.links (push.link ∷ []) 0 listed.0 listed.1 ∙ listed.2,
           )
         ]
       ])
     ]
-noted_caps links left j arc other amount touched false push differs before = λ some i low.
+noted_caps links left push touched false is differs before = λ some i low.
     elim (before some i low) [
       | inr listed ↦ inr listed
-      | inl has ↦ elim (cases_eq i j) [
-        | inl e ↦ absurd (push.differ (differs refl) (subst (HasCap links left) e has))
-        | inr ne ↦ inl (push.caps i ne has)
+      | inl has ↦ elim (cases_eq i push.link) [
+        | inl e ↦ absurd (is.differ (differs refl) (subst (HasCap links left) e has))
+        | inr ne ↦ inl (is.caps i ne has)
       ]
     ]
 

@@ -11,12 +11,13 @@ use Rattle.cut_model.specs.declared.network.TheConstants.{MOST_ROUTERS, MOST_LIN
 use Rattle.cut_model.specs.declared.network.Link.{Link}
 use Rattle.cut_model.specs.Net.{Net, IsInLimits}
 use Rattle.residual_graph.specs.Arcs.{no_link, arc_count}
-use Rattle.residual_graph.specs.Fills.{HasCaps, HasCapsBut, after}
+use Rattle.residual_graph.specs.Fills.{HasCaps, HasCapsBut}
 use Rattle.residual_graph.specs.Indexed.{IsIndexed}
 use Rattle.residual_graph.specs.Storage.{Lists, flows_at, net_in, view_of, ArePairs, IsStored}
 use Rattle.residual_graph.specs.Touched.{Touches, noted_if}
 use Rattle.residual_graph.specs.View.{ResidualView, left_on, pushed}
-use Rattle.residual_graph.proofs.Moves.{IsPush, push_is, noted_inside, noted_caps, caps_pairs, caps_flows}
+use Rattle.residual_graph.proofs.Moves.{IsPush, along_arc, left_after, push_is}
+use Rattle.residual_graph.proofs.Moves.{noted_inside, noted_caps, caps_pairs, caps_flows}
 use Rattle.residual_graph.proofs.Reading.{is_of, left_at, length-links}
 
 -- a list that is written back over the whole of another
@@ -58,13 +59,13 @@ told_apart a b x y ea eb apart same = false≢true (sym apart ∙ eq-eqb a b (ea
 -- The lists after a push of an amount along an arc, with its link noted or not.
 abbrev pub pushed_lists : Lists → ℕ → ℕ → Bool → Lists
 pushed_lists lists arc amount still =
-    with_left lists (after lists.left arc (bit_xor arc 1) amount) (noted_if still lists.touched (arc / 2))
+    with_left lists (left_after lists.left (along_arc arc amount)) (noted_if still lists.touched (arc / 2))
 
 -- What a push of an amount along an arc needs, and what contracts then see.
 pub record PushAt (lists : Lists) (view : ResidualView) (arc amount : ℕ) : Type 0 where
   pub enough : amount ≤ get_or lists.left arc 0
   pub inside : arc < length lists.left
-  pub push : IsPush (net_in lists).links lists.left (arc / 2) arc (bit_xor arc 1) amount
+  pub push : IsPush (net_in lists).links lists.left (along_arc arc amount)
   pub stored : (still : Bool) → (still ≡ false → get_or lists.left arc 0 ≢ get_or lists.left (bit_xor arc 1) 0)
       → IsStored (pushed_lists lists arc amount still)
   pub view_is : (still : Bool) → view_of (pushed_lists lists arc amount still)
@@ -79,7 +80,7 @@ push_at {lists} stored view is arc amount low left_over =
     let of = is_of stored view is in
     let size = length-links stored in
     let enough : amount ≤ get_or lists.left arc 0 = omega (arith, ints, left_at stored view is arc low, left_over) in
-    let push : IsPush (net_in lists).links lists.left (arc / 2) arc (bit_xor arc 1) amount =
+    let push : IsPush (net_in lists).links lists.left (along_arc arc amount) =
     push_is links lists.left arc amount stored.pairs
     (λ i inside. (stored.limits.within i no_link inside).cap)
     (omega (arith, of.count_is)) (omega (arith, stored.left_room, stored.links_fit)) enough in record {
@@ -87,10 +88,10 @@ push_at {lists} stored view is arc amount low left_over =
       inside = omega (arith, of.left_fits);
       push = push;
       stored = λ still differs.
-          stored_with stored (after lists.left arc (bit_xor arc 1) amount) (noted_if still lists.touched (arc / 2))
+          stored_with stored (left_after lists.left (along_arc arc amount)) (noted_if still lists.touched (arc / 2))
           push.size push.pairs
           (noted_inside lists.links lists.touched still (arc / 2) (omega (arith, of.count_is)) stored.touched_inside)
-          (noted_caps links lists.left (arc / 2) arc (bit_xor arc 1) amount lists.touched still push differs
+          (noted_caps links lists.left (along_arc arc amount) lists.touched still push differs
           stored.touched_all);
       view_is = λ still.
           ap (λ flow. record (view_of lists) { flow = flow }) push.flows
