@@ -7,14 +7,13 @@ use Rattle.std.proofs.lemmas.List.{length-replicate, get_or-replicate}
 use Rattle.std.specs.Prelude.{slice_index, slice_index_or}
 use Rattle.cut_model.specs.declared.network.TheConstants.{MOST_VALUE}
 use Rattle.cut_model.specs.Net.{Net, IsInLimits}
-use Rattle.cut_model.specs.Cuts.{RouterSet, set_of}
 use Rattle.cut_model.specs.Held.{CutView, IsHeldCut}
 use Rattle.cut_model.specs.Terminals.{IsTerminal, root_of}
 use Rattle.cut_model.proofs.Counting.{with_number-same, with_number-other}
 use Rattle.cut_model.proofs.Terminals.{root-lt}
 use Rattle.tree_state.specs.declared.entry.Entry.{Entry}
-use Rattle.tree_state.specs.Tables.{Table, Tables, up_after, width_after}
-use Rattle.tree_state.specs.History.{tables, entered, entry_of, MayFollow, IsLegalAfter}
+use Rattle.tree_state.specs.Tables.{Tables, tables_of, up_after, width_after}
+use Rattle.tree_state.specs.History.{commit, tables, entered, entry_of, MayFollow, IsLegalAfter}
 use Rattle.tree_state.specs.Growing.{IsGrown}
 use Rattle.tree_state.specs.Trees.{IsHalfBuiltTree}
 use Rattle.tree_state.proofs.Histories.{tables-push, entered-push, legal_push}
@@ -79,18 +78,19 @@ pub entries-lt : {net : Net} {up width : List ℕ} {done : List Bool} {history :
     → IsGrown net up width done history → IsInLimits net → length history < net.routers
 entries-lt {net = net} {history = history} g limits = length-lt net (root-lt net limits) history g.legal
 
--- a commit at two places of a table reads the table there alone
-up_after-same : (root : ℕ) (up other : Table) (s t : ℕ) (X : RouterSet) (i : ℕ) → up i ≡ other i → up t ≡ other t
-    → up_after root up s t X i ≡ up_after root other s t X i
+-- of what is above the routers a commit reads two places alone
+up_after-same : (root : ℕ) (T other : Tables) (entry : Entry) (i : ℕ) → T.up i ≡ other.up i
+    → T.up entry.neighbour ≡ other.up entry.neighbour → (commit root T entry).up i ≡ (commit root other entry).up i
 unfolding up_after
-up_after-same root up other s t X i here there = rw (here, there) refl
+up_after-same root T other entry i here there = rw (here, there) refl
 
 -- and so of the widths
-width_after-same : (root : ℕ) (up other width wide : Table) (s t k : ℕ) (X : RouterSet) (i : ℕ) → up t ≡ other t
-    → width i ≡ wide i → width t ≡ wide t
-    → width_after root up width s t k X i ≡ width_after root other wide s t k X i
+width_after-same : (root : ℕ) (T other : Tables) (entry : Entry) (i : ℕ)
+    → T.up entry.neighbour ≡ other.up entry.neighbour → T.width i ≡ other.width i
+    → T.width entry.neighbour ≡ other.width entry.neighbour
+    → (commit root T entry).width i ≡ (commit root other entry).width i
 unfolding width_after
-width_after-same root up other width wide s t k X i above here there = rw (above, here, there) refl
+width_after-same root T other entry i above here there = rw (above, here, there) refl
 
 -- What the lists are after the commit of an entry.
 pub record IsCommitted (net : Net) (up width next_up next_width : List ℕ) (entry : Entry) : Type 0 where
@@ -98,11 +98,10 @@ pub record IsCommitted (net : Net) (up width next_up next_width : List ℕ) (ent
   pub widths : length next_width ≡ length width
   pub up_is :
       (i : ℕ) → i < length next_up → slice_index next_up i
-      ≡ up_after (root_of net) (slice_index up) entry.router entry.neighbour (set_of entry.side) i
+      ≡ (commit (root_of net) (tables_of up width) entry).up i
   pub width_is :
       (i : ℕ) → i < length next_width → slice_index next_width i
-      ≡ width_after (root_of net) (slice_index up) (slice_index width) entry.router entry.neighbour entry.value
-      (set_of entry.side) i
+      ≡ (commit (root_of net) (tables_of up width) entry).width i
 
 -- the marks are those of the entered routers
 done_push : (done : List Bool) (history : List Entry) (entry : Entry) (n i : ℕ) → length done ≡ n → i < n
@@ -125,12 +124,11 @@ grown_push net up width next_up next_width done history entry limits g may after
   widths = after.widths ∙ g.widths;
   marks = length-set done entry.router true ∙ g.marks;
   up_is = λ i low. after.up_is i (omega (arith, after.ups, g.ups))
-      ∙ up_after-same (root_of net) (slice_index up) (tables (root_of net) history).up entry.router entry.neighbour
-      (set_of entry.side) i (g.up_is i low) (g.up_is entry.neighbour neighbour_in)
+      ∙ up_after-same (root_of net) (tables_of up width) (tables (root_of net) history) entry i
+      (g.up_is i low) (g.up_is entry.neighbour neighbour_in)
       ∙ ap (λ (T : Tables). T.up i) (sym (tables-push (root_of net) history entry));
   width_is = λ i low. after.width_is i (omega (arith, after.widths, g.widths))
-      ∙ width_after-same (root_of net) (slice_index up) (tables (root_of net) history).up (slice_index width)
-      (tables (root_of net) history).width entry.router entry.neighbour entry.value (set_of entry.side) i
+      ∙ width_after-same (root_of net) (tables_of up width) (tables (root_of net) history) entry i
       (g.up_is entry.neighbour neighbour_in) (g.width_is i low) (g.width_is entry.neighbour neighbour_in)
       ∙ ap (λ (T : Tables). T.width i) (sym (tables-push (root_of net) history entry));
   done_is = λ i low.

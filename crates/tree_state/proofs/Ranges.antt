@@ -6,15 +6,15 @@ use Rattle.std.proofs.lemmas.List.{length_push}
 use Rattle.std.specs.Prelude.{◌==◌}
 use Rattle.cut_model.specs.declared.network.TheConstants.{MOST_VALUE}
 use Rattle.cut_model.specs.Net.{Net, IsInLimits}
-use Rattle.cut_model.specs.Cuts.{RouterSet, set_of}
+use Rattle.cut_model.specs.Cuts.{set_of}
 use Rattle.cut_model.specs.Terminals.{number_in, root_of}
 use Rattle.cut_model.proofs.Counting.{with_number, with_number-other, number_in-none, number_in-lt, number_in-new}
 use Rattle.cut_model.proofs.Counting.{number_in-same}
 use Rattle.cut_model.proofs.Costs.{cut_value-most}
 use Rattle.cut_model.proofs.Terminals.{terminal-lt}
 use Rattle.tree_state.specs.declared.entry.Entry.{Entry}
-use Rattle.tree_state.specs.Tables.{Table, Tables, swaps, up_after, width_after}
-use Rattle.tree_state.specs.History.{tables, entered, MayFollow, IsLegal}
+use Rattle.tree_state.specs.Tables.{Tables, swaps, up_after, width_after}
+use Rattle.tree_state.specs.History.{commit, tables, entered, MayFollow, IsLegal}
 use Rattle.tree_state.proofs.Histories.{tables-push, entered-push, by_entries}
 
 -- What lies within bounds: each router hangs from one of the network, the root isn't entered, and there
@@ -24,20 +24,20 @@ pub record IsBounded (net : Net) (history : List Entry) : Type 0 where
   pub root_free : entered history (root_of net) ≡ false
   pub count : number_in (entered history) net.routers ≡ length history
 
--- a commit hangs routers only from s, from t and from the one above t
-pub up_after-lt : (n root : ℕ) (up : Table) (s t : ℕ) (X : RouterSet) (i : ℕ) → s < n → ((j : ℕ) → up j < n)
-    → t < n → up_after root up s t X i < n
+-- a commit hangs routers only from its router, from its neighbour and from the one above that
+pub up_after-lt : (n root : ℕ) (T : Tables) (entry : Entry) (i : ℕ) → entry.router < n → entry.neighbour < n
+    → ((j : ℕ) → T.up j < n) → (commit root T entry).up i < n
 unfolding up_after
-up_after-lt n root up s t X i s_in ups t_in =
-    let here : up i < n = ups i in
-    let above : up t < n = ups t in
+up_after-lt n root T entry i router_in neighbour_in ups =
+    let here : T.up i < n = ups i in
+    let above : T.up entry.neighbour < n = ups entry.neighbour in
     grind (
       arith,
-      cases_Bool (i == s),
-      cases_Bool (i == t),
-      cases_Bool (swaps root up t X),
-      cases_Bool (X i),
-      cases_Bool (up i == t),
+      cases_Bool (i == entry.router),
+      cases_Bool (i == entry.neighbour),
+      cases_Bool (swaps root T.up entry.neighbour (set_of entry.side)),
+      cases_Bool (set_of entry.side i),
+      cases_Bool (T.up i == entry.neighbour),
     )
 
 -- the empty history is bounded
@@ -54,8 +54,7 @@ bounded_push : (net : Net) (before : List Entry) (entry : Entry) → IsBounded n
     → IsBounded net (before ++ entry ∷ [])
 bounded_push net before entry bounded may = record {
   ups = λ i. subst (λ (T : Tables). T.up i < net.routers) (sym (tables-push (root_of net) before entry))
-      (up_after-lt net.routers (root_of net) (tables (root_of net) before).up entry.router entry.neighbour
-      (set_of entry.side) i router_in bounded.ups neighbour_in);
+      (up_after-lt net.routers (root_of net) (tables (root_of net) before) entry i router_in neighbour_in bounded.ups);
   root_free = entered-push before entry (root_of net)
       ∙ with_number-other entry.router (entered before) (root_of net) (λ e. may.not_root (sym e)) ∙ bounded.root_free;
   count = number_in-same (entered (before ++ entry ∷ [])) (with_number entry.router (entered before)) net.routers
@@ -98,13 +97,18 @@ length-lt-more net room history entry legal may =
 -- ---- widths
 
 -- a commit writes its value and a width that was there
-width_after-le : (most root : ℕ) (up width : Table) (s t k : ℕ) (X : RouterSet) (i : ℕ) → ((j : ℕ) → width j ≤ most)
-    → k ≤ most → width_after root up width s t k X i ≤ most
+width_after-le : (most root : ℕ) (T : Tables) (entry : Entry) (i : ℕ) → ((j : ℕ) → T.width j ≤ most)
+    → entry.value ≤ most → (commit root T entry).width i ≤ most
 unfolding width_after
-width_after-le most root up width s t k X i widths value =
-    let here : width i ≤ most = widths i in
-    let above : width t ≤ most = widths t in
-    grind (arith, cases_Bool (i == s), cases_Bool (i == t), cases_Bool (swaps root up t X))
+width_after-le most root T entry i widths value =
+    let here : T.width i ≤ most = widths i in
+    let above : T.width entry.neighbour ≤ most = widths entry.neighbour in
+    grind (
+      arith,
+      cases_Bool (i == entry.router),
+      cases_Bool (i == entry.neighbour),
+      cases_Bool (swaps root T.up entry.neighbour (set_of entry.side)),
+    )
 
 -- No width is more than a cut may cost.
 abbrev HasWidthsAtMost : Net → List Entry → Type 0
@@ -120,8 +124,7 @@ widths_push : (net : Net) → IsInLimits net → (before : List Entry) (entry : 
     → MayFollow net before entry → HasWidthsAtMost net (before ++ entry ∷ [])
 widths_push net limits before entry widths may i =
     subst (λ (T : Tables). T.width i ≤ MOST_VALUE) (sym (tables-push (root_of net) before entry))
-    (width_after-le MOST_VALUE (root_of net) (tables (root_of net) before).up (tables (root_of net) before).width
-    entry.router entry.neighbour entry.value (set_of entry.side) i widths value)
+    (width_after-le MOST_VALUE (root_of net) (tables (root_of net) before) entry i widths value)
   where
     value : entry.value ≤ MOST_VALUE
     value = rw (← may.least.value) (cut_value-most net limits (set_of entry.side))
