@@ -24,61 +24,87 @@ pub moved_by-inside : (place word s t : ℕ) (up : Table) (i : ℕ) → i / 64 �
     → moved_by place word s t up i ≡ moved_if (bit_at word (i % 64) == 1) s t (up i)
 moved_by-inside place word s t up i here = rw (eq-eqb (i / 64) place here) refl
 
--- one router more of the word is moved
-pub moved_more : (place word s t i v : ℕ) (now before : List ℕ) → i < length now → i / 64 ≡ place
-    → v ≡ moved_if (bit_at word (i % 64) == 1) s t (slice_index now i)
-    → ((k : ℕ) → k < i → slice_index now k ≡ moved_by place word s t (slice_index before) k)
-    → ((k : ℕ) → i ≤ k → slice_index now k ≡ slice_index before k)
-    → (k : ℕ) → k < i + 1 → slice_index (set now i v) k ≡ moved_by place word s t (slice_index before) k
-moved_more place word s t i v now before within here is moved rest k low = elim (cases_eq k i) [
-  | inl e ↦ rw e (get_or-set_same now i v 0 within ∙ is
-      ∙ ap (moved_if (bit_at word (i % 64) == 1) s t) (rest i (omega arith))
-      ∙ sym (moved_by-inside place word s t (slice_index before) i here))
-  | inr ne ↦ get_or-set_other now i k v 0 ne ∙ moved k (omega arith)
-]
+-- What one word moves: those of its routers that hung from t hang from s, and what was above each before.
+pub record WordMove : Type 0 where
+  pub place : ℕ
+  pub word : ℕ
+  pub s : ℕ
+  pub t : ℕ
+  pub before : List ℕ
 
--- and those past it stand as before
-pub rest_more : (i v : ℕ) (now before : List ℕ) → ((k : ℕ) → i ≤ k → slice_index now k ≡ slice_index before k)
-    → (k : ℕ) → i + 1 ≤ k → slice_index (set now i v) k ≡ slice_index before k
-rest_more i v now before rest k high = get_or-set_other now i k v 0 (λ e. omega arith) ∙ rest k (omega arith)
+-- The routers before one are moved, and the others stand as before.
+pub record AreMovedTo (w : WordMove) (i : ℕ) (now : List ℕ) : Type 0 where
+  pub moved : (k : ℕ) → k < i → slice_index now k ≡ moved_by w.place w.word w.s w.t (slice_index w.before) k
+  pub rest : (k : ℕ) → i ≤ k → slice_index now k ≡ slice_index w.before k
+
+-- one router more of the word is moved
+pub moved_more : (w : WordMove) (i v : ℕ) (now : List ℕ) → AreMovedTo w i now → i < length now → i / 64 ≡ w.place
+    → v ≡ moved_if (bit_at w.word (i % 64) == 1) w.s w.t (slice_index now i) → AreMovedTo w (i + 1) (set now i v)
+moved_more w i v now so_far within here is = record {
+  moved = λ k low. elim (cases_eq k i) [
+    | inl e ↦ rw e (get_or-set_same now i v 0 within ∙ is
+        ∙ ap (moved_if (bit_at w.word (i % 64) == 1) w.s w.t) (so_far.rest i (omega arith))
+        ∙ sym (moved_by-inside w.place w.word w.s w.t (slice_index w.before) i here))
+    | inr ne ↦ get_or-set_other now i k v 0 ne ∙ so_far.moved k (omega arith)
+  ];
+  rest = λ k high. get_or-set_other now i k v 0 (λ e. omega arith) ∙ so_far.rest k (omega arith);
+}
+
+-- What a side moves: those of the routers of X that hung from t hang from s, and what was above each before.
+pub record Move : Type 0 where
+  pub s : ℕ
+  pub t : ℕ
+  pub X : RouterSet
+  pub before : List ℕ
+
+-- The routers of the words before a place are moved, and the others stand as before.
+pub record AreMoved (m : Move) (place : ℕ) (now : List ℕ) : Type 0 where
+  pub moved :
+      (k : ℕ) → k < 64 * place → k < length m.before
+      → slice_index now k ≡ moved_to m.s (slice_index m.before) m.t m.X k
+  pub rest : (k : ℕ) → 64 * place ≤ k → slice_index now k ≡ slice_index m.before k
+
+-- The word has of X the 64 routers from its place on.
+abbrev pub IsWordOf : Move → ℕ → ℕ → Type 0
+IsWordOf m place word = (i : ℕ) → i < 64 → (bit_at word i == 1) ≡ m.X (64 * place + i)
+
+-- The routers of one word are moved, from one list to the next.
+pub record MovesWord (m : Move) (place : ℕ) (now next : List ℕ) : Type 0 where
+  pub word : ℕ
+  pub bits : IsWordOf m place word
+  pub len : length next ≡ length m.before
+  pub step : (k : ℕ) → k < length next → slice_index next k ≡ moved_by place word m.s m.t (slice_index now) k
 
 -- a whole word more of a side is moved
-pub word_more : (place word s t : ℕ) (X : RouterSet) (next now before : List ℕ) → length next ≡ length before
-    → ((i : ℕ) → i < 64 → (bit_at word i == 1) ≡ X (64 * place + i))
-    → ((k : ℕ) → k < length next → slice_index next k ≡ moved_by place word s t (slice_index now) k)
-    → ((k : ℕ) → k < 64 * place → k < length before → slice_index now k ≡ moved_to s (slice_index before) t X k)
-    → ((k : ℕ) → 64 * place ≤ k → slice_index now k ≡ slice_index before k)
-    → (k : ℕ) → k < 64 * (place + 1) → k < length before
-    → slice_index next k ≡ moved_to s (slice_index before) t X k
-word_more place word s t X next now before len bits step moved rest k low within = elim (cases_eq (k / 64) place) [
-  | inl here ↦ step k (omega arith) ∙ moved_by-inside place word s t (slice_index now) k here
-      ∙ ap (moved_if (bit_at word (k % 64) == 1) s t) (rest k (omega arith))
-      ∙ ap (λ b. moved_if b s t (slice_index before k)) (bits (k % 64) (omega arith) ∙ ap X (omega arith))
-  | inr out ↦ step k (omega arith) ∙ moved_by-outside place word s t (slice_index now) k out
-      ∙ moved k (omega arith) within
-]
-
--- and the words past it stand as before
-pub word_rest : (place word s t : ℕ) (next now before : List ℕ) → length next ≡ length before
-    → length now ≡ length before
-    → ((k : ℕ) → k < length next → slice_index next k ≡ moved_by place word s t (slice_index now) k)
-    → ((k : ℕ) → 64 * place ≤ k → slice_index now k ≡ slice_index before k)
-    → (k : ℕ) → 64 * (place + 1) ≤ k → slice_index next k ≡ slice_index before k
-word_rest place word s t next now before len len_now step rest k high = elim (cases_lt k (length before)) [
-  | inl within ↦ step k (omega arith) ∙ moved_by-outside place word s t (slice_index now) k (λ e. omega arith)
-      ∙ rest k (omega arith)
-  | inr past ↦ get_or_past next k 0 (omega arith) ∙ sym (get_or_past before k 0 past)
-]
+pub word_more : (m : Move) (place : ℕ) (now next : List ℕ) → AreMoved m place now → MovesWord m place now next
+    → AreMoved m (place + 1) next
+word_more m place now next so_far one = record {
+  moved = λ k low within. elim (cases_eq (k / 64) place) [
+    | inl here ↦ one.step k (omega (arith, one.len))
+        ∙ moved_by-inside place one.word m.s m.t (slice_index now) k here
+        ∙ ap (moved_if (bit_at one.word (k % 64) == 1) m.s m.t) (so_far.rest k (omega arith))
+        ∙ ap (λ b. moved_if b m.s m.t (slice_index m.before k))
+        (one.bits (k % 64) (omega arith) ∙ ap m.X (omega arith))
+    | inr out ↦ one.step k (omega (arith, one.len))
+        ∙ moved_by-outside place one.word m.s m.t (slice_index now) k out
+        ∙ so_far.moved k (omega arith) within
+  ];
+  rest = λ k high. elim (cases_lt k (length m.before)) [
+    | inl within ↦ one.step k (omega (arith, one.len))
+        ∙ moved_by-outside place one.word m.s m.t (slice_index now) k (λ e. omega arith)
+        ∙ so_far.rest k (omega arith)
+    | inr past ↦ get_or_past next k 0 (omega (arith, one.len)) ∙ sym (get_or_past m.before k 0 past)
+  ];
+}
 
 -- an empty word moves none
-pub empty_more : (place s t : ℕ) (X : RouterSet) (now before : List ℕ)
-    → ((i : ℕ) → i < 64 → (bit_at 0 i == 1) ≡ X (64 * place + i))
-    → ((k : ℕ) → k < 64 * place → k < length before → slice_index now k ≡ moved_to s (slice_index before) t X k)
-    → ((k : ℕ) → 64 * place ≤ k → slice_index now k ≡ slice_index before k)
-    → (k : ℕ) → k < 64 * (place + 1) → k < length before
-    → slice_index now k ≡ moved_to s (slice_index before) t X k
-empty_more place s t X now before bits moved rest k low within = elim (cases_eq (k / 64) place) [
-  | inl here ↦ rest k (omega arith) ∙ ap (λ b. moved_if b s t (slice_index before k))
-      (ap (λ d. d == 1) (sym (bit_at-zero (k % 64))) ∙ bits (k % 64) (omega arith) ∙ ap X (omega arith))
-  | inr out ↦ moved k (omega arith) within
-]
+pub empty_more : (m : Move) (place : ℕ) (now : List ℕ) → AreMoved m place now → IsWordOf m place 0
+    → AreMoved m (place + 1) now
+empty_more m place now so_far bits = record {
+  moved = λ k low within. elim (cases_eq (k / 64) place) [
+    | inl here ↦ so_far.rest k (omega arith) ∙ ap (λ b. moved_if b m.s m.t (slice_index m.before k))
+        (ap (λ d. d == 1) (sym (bit_at-zero (k % 64))) ∙ bits (k % 64) (omega arith) ∙ ap m.X (omega arith))
+    | inr out ↦ so_far.moved k (omega arith) within
+  ];
+  rest = λ k high. so_far.rest k (omega arith);
+}

@@ -1,6 +1,6 @@
 use Rattle.std.proofs.Common.{inl, inr, sym, ◌∙◌, slice_index, refl, arith}
 use Rattle.std.proofs.lemmas.Bool.{cases_lt}
-use Rattle.tree_state.proofs.Words.{moved_by-outside, moved_more, rest_more}
+use Rattle.tree_state.proofs.Words.{moved_by-outside, moved_more}
 use Rattle.tree_state.proofs.tables.move_in_word.Goals as goal
 
 pub loop-i-init : goal.loop-i-init
@@ -11,11 +11,8 @@ loop-i-init c = record {
 }
 
 pub loop-i-preserved : goal.loop-i-preserved
-loop-i-preserved c = record {
-  moved = moved_more c.args.place c.args.word c.args.s c.args.t c.loop-i.i c.moved.result c.loop-i.up c.args.up.now
-      (omega arith) (omega arith) c.moved.ensures c.loop-i.invariant.moved c.loop-i.invariant.rest;
-  rest = rest_more c.loop-i.i c.moved.result c.loop-i.up c.args.up.now c.loop-i.invariant.rest;
-}
+loop-i-preserved c =
+    moved_more _ c.loop-i.i c.moved.result c.loop-i.up c.loop-i.invariant (omega arith) (omega arith) c.moved.ensures
 
 pub returns : goal.returns
 returns c = λ i within. elim (cases_lt i c.loop-i.i) [
