@@ -1,6 +1,6 @@
 -- Two ways up, the second turned round, are a path in its order.
 use Rattle.std.proofs.Common.{◌≡◌, inl, inr, ℕ, ◌+◌, ◌<◌, true, List, ◌++◌, length, map, reverse, take, drop}
-use Rattle.std.proofs.Common.{sym, ◌∙◌, subst, arith, refl}
+use Rattle.std.proofs.Common.{sym, subst, arith, refl}
 use Rattle.std.specs.Prelude.{◌==◌, Contains, All}
 use Rattle.std.specs.List.Sorted.{IsStrictlyIncreasing}
 use Rattle.std.proofs.lemmas.Bool.{eq-eqb, eqb-true}
@@ -119,11 +119,8 @@ path-within net up a b children path =
       | inr after ↦ terminal-lt net c ((path.behind_is c).0 after).on_path.terminal
     ]
 
--- two ways, the second turned round, are what is left in a room that had no more at its front
-pub turned-left : (way back first both lent turned rest : List ℕ) (k len : ℕ) → first ≡ way → both ≡ first ++ back
-    → lent ≡ both → length first ≡ k → turned ≡ take k lent ++ reverse (drop k lent) → length turned ≡ len
-    → take len (turned ++ rest) ≡ way ++ reverse back
-turned-left way back first both lent turned rest k len first_is both_is lent_is long turned_is whole =
-    take_at turned rest len whole
-    ∙ turned_is
-    ∙ rw (lent_is ∙ both_is, take_at first back k long, drop_at first back k long, first_is) refl
+-- two ways, of which what stands behind the first is turned round, are the first and the second turned round
+pub turned-behind : (way back : List ℕ)
+    → take (length way) (way ++ back) ++ reverse (drop (length way) (way ++ back)) ≡ way ++ reverse back
+turned-behind way back =
+    rw (take_at way back (length way) refl, drop_at way back (length way) refl) refl

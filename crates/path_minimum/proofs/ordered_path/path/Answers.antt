@@ -1,10 +1,11 @@
-use Rattle.std.proofs.Common.{◌≡◌, ℕ, ◌++◌, List, length, take, drop, reverse, sym, ◌∙◌, ap, arith}
+use Rattle.std.proofs.Common.{◌≡◌, ℕ, ◌++◌, List, length, take, drop, reverse, ◌∙◌, ap, arith}
+use Rattle.std.proofs.lemmas.List.{take_at}
 use Rattle.tree_state.specs.Views.{up_of}
 use Rattle.path_minimum.specs.Paths.{IsOrderedPath}
 use Rattle.path_minimum.specs.Walks.{way_between}
 use Rattle.path_minimum.proofs.Depths.{tree_in, depth_of-lt}
 use Rattle.path_minimum.proofs.Ways.{meeting-above, meeting-turned, length-way_between}
-use Rattle.path_minimum.proofs.Orders.{path-ordered, ways-short, length-path, path-within, turned-left}
+use Rattle.path_minimum.proofs.Orders.{path-ordered, ways-short, length-path, path-within, turned-behind}
 use Rattle.path_minimum.proofs.ordered_path.path.Goals as goal
 
 pub push_way-requires-clause-above : goal.push_way-requires-clause-above
@@ -45,16 +46,21 @@ returns c =
     let tree = c.args.finished.now.tree in
     let m = c.meeting_of-meeting.result in
     let holds = c.meeting_of-meeting.ensures.tree in
+    let way = way_between tree c.args.a m in
+    let back = way_between tree c.args.b m in
+    let front : c.push_way.new.children.items ≡ way_between tree c.args.a m =
+    c.push_way.ensures.way ∙ ap (λ (front : List ℕ). front ++ way) c.clear.ensures.items in
+    let long : c.len-front.result ≡ length (way_between tree c.args.a m) =
+    c.len-front.ensures ∙ c.push_way.new.children.ok.0 ∙ ap length front in
+    let both : c.deref_mut.result.now ≡ way_between tree c.args.a m ++ way_between tree c.args.b m =
+    c.deref_mut.ensures.value ∙ c.push_way-2.ensures.way ∙ ap (λ (front : List ℕ). front ++ back) front in
     let left : take c.push_way-2.new.children.len
     (c.turn_behind.new.children ++ drop (length c.turn_behind.new.children) c.push_way-2.new.children.items)
     ≡ way_between tree c.args.a m ++ reverse (way_between tree c.args.b m) =
-    turned-left (way_between tree c.args.a m) (way_between tree c.args.b m) c.push_way.new.children.items
-    c.push_way-2.new.children.items c.deref_mut.result.now c.turn_behind.new.children
-    (drop (length c.turn_behind.new.children) c.push_way-2.new.children.items) c.len-front.result
-    c.push_way-2.new.children.len
-    (c.push_way.ensures.way ∙ ap (λ (front : List ℕ). front ++ way_between tree c.args.a m) c.clear.ensures.items)
-    c.push_way-2.ensures.way c.deref_mut.ensures.value (sym c.push_way.new.children.ok.0 ∙ sym c.len-front.ensures)
-    c.turn_behind.ensures (c.turn_behind.auto.children ∙ c.deref_mut.ensures.len) in
+    take_at c.turn_behind.new.children (drop (length c.turn_behind.new.children) c.push_way-2.new.children.items)
+    c.push_way-2.new.children.len (c.turn_behind.auto.children ∙ c.deref_mut.ensures.len)
+    ∙ c.turn_behind.ensures ∙ (λ i. take (long i) (both i) ++ reverse (drop (long i) (both i)))
+    ∙ turned-behind way back in
     let path : IsOrderedPath tree.net (up_of tree) c.args.a c.args.b
     (way_between tree c.args.a m ++ reverse (way_between tree c.args.b m)) =
     path-ordered tree holds c.args.a c.args.b m c.requires.a c.requires.b c.meeting_of-meeting.ensures.meeting in
