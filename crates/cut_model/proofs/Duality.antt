@@ -154,23 +154,32 @@ ltb-past s m ne = elim (cases_lt s m) [
   | inr g ↦ le-ltb s (suc m) (omega arith) ∙ sym (le-ltb s m g)
 ]
 
--- all that Y sends out comes from s, where it holds s, lacks t, and every other router keeps the flow
-total_is : (Y : RouterSet) (links : List Link) (flow : List ℤ) (n s t k : ℕ) → Y s ≡ true → Y t ≡ false
-    → out s links flow ≡ pos k → ((r : ℕ) → r < n → r ≢ s → r ≢ t → out r links flow ≡ pos 0)
-    → (m : ℕ) → m ≤ n → total Y links flow m ≡ cond (ltb s m) (pos k) (pos 0)
-total_is Y links flow n s t k hs ht at_s at_r zero h = rw (le-ltb s 0 (omega arith)) none_yet
-  where
-    none_yet : total Y links flow zero ≡ pos 0
-    none_yet = total-zero Y links flow
-total_is Y links flow n s t k hs ht at_s at_r (suc m) h =
-    let before = total_is Y links flow n s t k hs ht at_s at_r m (omega arith) in
-    total-suc Y links flow m ∙ elim (cases_eq m s) [
-      | inl e ↦ rw (before, e, hs, at_s, le-ltb s s (omega arith), lt-ltb s (suc s) (omega arith)) (omega (arith, ints))
-      | inr ne ↦ rw (before, ltb-past s m ne) (elim (cases_Bool (Y m)) [
-        | inr out_of ↦ rw out_of (grind (arith, ints, cases_Bool (ltb s m)))
+-- A flow of k from s to t, and a set that holds s and lacks t.
+pub record Parted (net : Net) : Type 0 where
+  pub s : ℕ
+  pub t : ℕ
+  pub flow : List ℤ
+  pub k : ℕ
+  pub Y : RouterSet
+  pub is : IsFlow net s t flow k
+  pub holds : Y s ≡ true
+  pub lacks : Y t ≡ false
+
+-- all that the set sends out comes from s, as every other router keeps the flow
+total_is : (net : Net) (p : Parted net) (m : ℕ) → m ≤ net.routers
+    → total p.Y net.links p.flow m ≡ cond (ltb p.s m) (pos p.k) (pos 0)
+total_is net p zero h = rw (le-ltb p.s 0 (omega arith)) (total-zero p.Y net.links p.flow)
+total_is net p (suc m) h =
+    let before = total_is net p m (omega arith) in
+    total-suc p.Y net.links p.flow m ∙ elim (cases_eq m p.s) [
+      | inl e ↦
+          rw (before, e, p.holds, p.is.sent, le-ltb p.s p.s (omega arith), lt-ltb p.s (suc p.s) (omega arith))
+          (omega (arith, ints))
+      | inr ne ↦ rw (before, ltb-past p.s m ne) (elim (cases_Bool (p.Y m)) [
+        | inr out_of ↦ rw out_of (grind (arith, ints, cases_Bool (ltb p.s m)))
         | inl y ↦
-            rw (y, at_r m (omega arith) ne (λ e. false≢true (sym ht ∙ ap Y (sym e) ∙ y)))
-            (grind (arith, ints, cases_Bool (ltb s m)))
+            rw (y, p.is.kept m (omega arith) ne (λ e. false≢true (sym p.lacks ∙ ap p.Y (sym e) ∙ y)))
+            (grind (arith, ints, cases_Bool (ltb p.s m)))
       ])
     ]
 
@@ -178,7 +187,8 @@ total_is Y links flow n s t k hs ht at_s at_r (suc m) h =
 total-flow : (net : Net) (s t : ℕ) (flow : List ℤ) (k : ℕ) → s < net.routers → IsFlow net s t flow k
     → (Y : RouterSet) → Y s ≡ true → Y t ≡ false → total Y net.links flow net.routers ≡ pos k
 total-flow net s t flow k small is Y hs ht =
-    total_is Y net.links flow net.routers s t k hs ht is.sent is.kept net.routers (omega arith)
+    total_is net (record { s = s; t = t; flow = flow; k = k; Y = Y; is = is; holds = hs; lacks = ht }) net.routers
+    (omega arith)
     ∙ rw (lt-ltb s net.routers small) refl
 
 -- weak duality: a flow is at most the cost of each set that holds s and lacks t
