@@ -1,5 +1,5 @@
 -- What least cuts of two routers cost, and how much a cut may cost.
-use Rattle.std.specs.Prelude.{◌≡◌, ◌≢◌, ℕ, zero, suc, ◌<◌, ◌≤◌, ◌==◌, ◌||◌, true, false, min, if◌then◌else◌}
+use Rattle.std.specs.Prelude.{◌≡◌, ◌≢◌, ℕ, zero, suc, ◌≤◌, ◌==◌, ◌||◌, true, false, min, if◌then◌else◌}
 use Rattle.cut_model.specs.declared.network.TheConstants.{MOST_VALUE}
 use Rattle.cut_model.specs.Net.{Net, IsInLimits}
 use Rattle.cut_model.specs.Cuts.{RouterSet, cut_value, IsLeastCut}
