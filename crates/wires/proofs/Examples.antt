@@ -1,6 +1,7 @@
 -- The definitions on small examples, by computing.
 use Rattle.std.proofs.Common.{◌≡◌, ℕ, Bool, [], ◌∷◌, Ok, Err, Some, true, false, refl, codes, arith}
 use Rattle.wires.specs.Bytes.{answers_end, PutAppends}
+use Rattle.wires.specs.Causes.{CountsOne}
 use Rattle.wires.specs.Memory.{Supply, Store, read_count, read_fails, put_writes}
 
 -- a read of no byte means the end, unless the buffer was empty
@@ -43,3 +44,7 @@ store = record { bytes = codes "ab"; room = 3; failing = []; calls = 1; faults =
 
 one_fits : put_writes store (codes "cd") ≡ codes "c"
 one_fits = refl
+
+-- a count that is 0 before and after has counted nothing
+none_counted : CountsOne 0 0 true → ⊥
+none_counted counts = omega (arith, counts.failed)

@@ -2,5 +2,6 @@ pub mod Asides
 pub mod Beside
 pub mod Bytes
 pub mod Causes
+pub mod Lazy
 pub mod Memory
 pub mod Puts

@@ -3,11 +3,13 @@
 //! A layer above reads from a [`Source`] and writes to a [`Sink`]. It is promised that every failure it
 //! is told of has a cause: the count of faults of that very object rose by one in that very call, and
 //! it rises in no call that succeeds.
-//! A [`Peer`] is both, and its reads and puts leave each other alone.
+//! A [`Peer`] is both, and its reads and puts leave each other alone. A [`LazyPeer`] may be not ready: it
+//! answers so rather than wait, and counts it.
 #![tactic(auto)]
 
 mod counting;
 mod faults;
+mod lazy;
 mod memory;
 mod memory_peer;
 mod peers;
@@ -21,6 +23,7 @@ mod tests;
 
 pub use counting::CountingSink;
 pub use faults::Failed;
+pub use lazy::{Got, LazyPeer, Taken};
 pub use memory::{MemorySink, MemorySource};
 pub use memory_peer::MemoryPeer;
 pub use peers::{Pair, Peer};
