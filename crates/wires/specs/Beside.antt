@@ -11,10 +11,11 @@ pub record Half : Type 0 where
   pub takes : ℕ → Bool
 
 -- nothing; or what the other half of a peer shows, and what the peer is beside its two halves;
--- or two references, by their ghost names, with what the object behind each is beside
+-- or one or two references, by their ghost names, with what the object behind each is beside
 pub data Beside : Type 0 where
   Nothing : Beside
   Other : Half → Beside → Beside
+  One : ℕ → Beside → Beside
   Two : ℕ → Beside → ℕ → Beside → Beside
 
 -- what an object is that is nothing else
@@ -37,10 +38,12 @@ sink_half written faults takes = record { bytes = written; met = false; faults =
 abbrev pub other_of : Beside → Half
 other_of Nothing = no_half
 other_of (Other half rest) = half
+other_of (One peer beside_peer) = no_half
 other_of (Two source beside_source sink beside_sink) = no_half
 
 -- what is beside the two halves
 abbrev pub rest_of : Beside → Beside
 rest_of Nothing = Nothing
 rest_of (Other half rest) = rest
+rest_of (One peer beside_peer) = Nothing
 rest_of (Two source beside_source sink beside_sink) = Nothing

@@ -1,8 +1,9 @@
 //! What no clause says: that the calls which take memory succeed, and what std's readers and writers do.
 
-ghost use Rattle.std.specs.Prelude.{◌≡◌, IfOk};
+ghost use Rattle.std.specs.Prelude.{◌≡◌, ◌≢◌, IfOk};
 ghost use Rattle.std.specs.Io.KnownBytes.{Appends, ReadConsumes};
 ghost use Rattle.wires.specs.Bytes.{PutAppends};
+ghost use Rattle.wires.specs.Lazy.{PutCounts, PutTells, PutWrites, ReadCounts, ReadTakes, ReadTells};
 
 use crate::*;
 use std::test::Fail;
@@ -114,5 +115,64 @@ fn pair_reads_one_object_and_puts_to_the_other(rt: HostRuntime) -> Result<(), Fa
     assert_eq!(rt; source.read(&mut buffer), Ok(0));
     assert_eq!(rt; buffer, [b'c', b'b']);
     assert_eq!(rt; sink.written(), b"xyzv".as_slice());
+    Ok(())
+}
+
+// Reads from any peer that may be not ready.
+fn hear_now<L: LazyPeer>(peer: &mut L, buffer: &mut [u8]) -> Got
+    ensures tells { ReadTells result buffer.new (L.wire peer.old) (L.wire peer.new) }
+    ensures counts { ReadCounts result (L.counts peer.old) (L.counts peer.new) }
+    ensures beside { L.beside_lazy peer.new ≡ L.beside_lazy peer.old }
+{
+    peer.read_now(buffer)
+}
+
+// Puts to any peer that may be not ready.
+fn tell_now<L: LazyPeer>(peer: &mut L, bytes: &[u8]) -> Taken
+    ensures tells { PutTells result bytes.now (L.wire peer.old) (L.wire peer.new) }
+    ensures counts { PutCounts result (L.counts peer.old) (L.counts peer.new) }
+    ensures beside { L.beside_lazy peer.new ≡ L.beside_lazy peer.old }
+{
+    peer.put_now(bytes)
+}
+
+// Reads from a peer that is lent as one that is always ready: no read isn't ready, and the peer shows
+// afterwards what the read left of it.
+fn hear_ready<P: Peer>(peer: &mut P, buffer: &mut [u8]) -> Got
+    ensures ready { result ≢ Got.NotYet }
+    ensures reads { ReadTakes result buffer.new (P.left peer.old) (P.left peer.new) }
+    ensures written { P.written peer.new ≡ P.written peer.old }
+    ensures faults { P.write_faults peer.new ≡ P.write_faults peer.old }
+    ensures beside { P.beside_peer peer.new ≡ P.beside_peer peer.old }
+{
+    hear_now(&mut ReadyPeer { peer }, buffer)
+}
+
+// Puts to a peer that is lent so.
+fn tell_ready<P: Peer>(peer: &mut P, bytes: &[u8]) -> Taken
+    ensures ready { result ≢ Taken.NotYet }
+    ensures puts { PutWrites result bytes.now (P.written peer.old) (P.written peer.new) }
+    ensures left { P.left peer.new ≡ P.left peer.old }
+    ensures ended { P.ended peer.new ≡ P.ended peer.old }
+    ensures faults { P.read_faults peer.new ≡ P.read_faults peer.old }
+    ensures beside { P.beside_peer peer.new ≡ P.beside_peer peer.old }
+{
+    tell_now(&mut ReadyPeer { peer }, bytes)
+}
+
+#[test]
+fn ready_peer_is_a_peer_that_waits(rt: HostRuntime) -> Result<(), Fail> {
+    let bytes = b"abcde".to_vec(rt.alloc())?;
+    let source = MemorySource::make(bytes, 3, [2u32].to_vec(rt.alloc())?);
+    let sink = MemorySink::make(rt.alloc(), 4, Vec::new(rt.alloc()))?;
+    let mut peer = MemoryPeer { source, sink };
+    let mut buffer = [0u8; 8];
+    assert_eq!(rt; hear_ready(&mut peer, &mut buffer), Got::Bytes(3));
+    assert_eq!(rt; hear_ready(&mut peer, &mut buffer), Got::Failed);
+    assert_eq!(rt; tell_ready(&mut peer, b"xyz"), Taken::Bytes(3));
+    assert_eq!(rt; hear_ready(&mut peer, &mut buffer), Got::Bytes(2));
+    assert_eq!(rt; hear_ready(&mut peer, &mut buffer), Got::End);
+    assert_eq!(rt; tell_ready(&mut peer, b"vw"), Taken::Failed);
+    assert_eq!(rt; peer.sink.written(), b"xyzv".as_slice());
     Ok(())
 }
