@@ -2,7 +2,10 @@
 use Rattle.std.proofs.Common.{◌≡◌, ℕ, Bool, [], ◌∷◌, Ok, Err, Some, true, false, refl, codes, arith}
 use Rattle.wires.specs.Bytes.{answers_end, PutAppends}
 use Rattle.wires.specs.Causes.{CountsOne}
+use Rattle.wires.specs.LazyMemory.{LazyState, read_answer, put_answer}
 use Rattle.wires.specs.Memory.{Supply, Store, read_count, read_fails, put_writes}
+use Rattle.wires.specs.declared.lazy.Got.TheVariants as got
+use Rattle.wires.specs.declared.lazy.Taken.TheVariants as taken
 
 -- a read of no byte means the end, unless the buffer was empty
 the_end : answers_end {E = Unit {0}} (Ok 0) (codes "..") ≡ true
@@ -48,3 +51,29 @@ one_fits = refl
 -- a count that is 0 before and after has counted nothing
 none_counted : CountsOne 0 0 true → ⊥
 none_counted counts = omega (arith, counts.failed)
+
+-- a peer of two bytes and room for one, whose second call isn't ready and whose third fails
+abbrev peer : ℕ → Bool → LazyState
+peer calls ended = record {
+  left = codes "ab";
+  ended = ended;
+  written = [];
+  calls = calls;
+  counts = record { read_faults = 0; write_faults = 0; reads_not_yet = 0; puts_not_yet = 0 };
+  rules = record { piece = 3; room = 1; late = 2 ∷ 3 ∷ []; failing = 3 ∷ [] };
+}
+
+first_gives : read_answer (peer 0 false) 8 ≡ got.Bytes 2
+first_gives = refl
+
+second_is_late : read_answer (peer 1 false) 8 ≡ got.NotYet
+second_is_late = refl
+
+third_fails : put_answer (peer 2 false) 2 ≡ taken.Failed
+third_fails = refl
+
+fourth_takes_one : put_answer (peer 3 false) 2 ≡ taken.Bytes 1
+fourth_takes_one = refl
+
+end_stays : read_answer (peer 2 true) 8 ≡ got.End
+end_stays = refl

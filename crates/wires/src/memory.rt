@@ -108,8 +108,8 @@ impl Source for MemorySource {
     }
 }
 
-// Whether a call has one of these numbers.
-fn is_among(numbers: &[u32], call: u64) -> bool
+/// Whether a call has one of these numbers.
+pub(crate) fn is_among(numbers: &[u32], call: u64) -> bool
     ensures { result ≡ is_named numbers.now call }
 {
     numbers.iter().any(|number| u64::from(*number) == call)

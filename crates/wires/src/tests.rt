@@ -176,3 +176,37 @@ fn ready_peer_is_a_peer_that_waits(rt: HostRuntime) -> Result<(), Fail> {
     assert_eq!(rt; peer.sink.written(), b"xyzv".as_slice());
     Ok(())
 }
+
+// Reads and puts are counted together. Number 4 stands in both lists, and number 7 is behind the end.
+#[test]
+fn memory_lazy_peer_reads_by_its_rules(rt: HostRuntime) -> Result<(), Fail> {
+    let bytes = b"abcde".to_vec(rt.alloc())?;
+    let late = [3u32, 4].to_vec(rt.alloc())?;
+    let failing = [4u32, 7].to_vec(rt.alloc())?;
+    let mut peer = MemoryLazyPeer::make(rt.alloc(), bytes, 3, 4, late, failing)?;
+    let mut buffer = [0u8; 4];
+    assert_eq!(rt; peer.read_now(&mut buffer), Got::Bytes(3));
+    assert_eq!(rt; peer.put_now(b"x"), Taken::Bytes(1));
+    assert_eq!(rt; peer.read_now(&mut buffer), Got::NotYet);
+    assert_eq!(rt; peer.read_now(&mut buffer), Got::Failed);
+    assert_eq!(rt; peer.read_now(&mut buffer), Got::Bytes(2));
+    assert_eq!(rt; peer.read_now(&mut buffer), Got::End);
+    assert_eq!(rt; peer.read_now(&mut buffer), Got::End);
+    assert_eq!(rt; buffer, [b'd', b'e', b'c', 0]);
+    Ok(())
+}
+
+// Number 3 stands in both lists.
+#[test]
+fn memory_lazy_peer_keeps_what_fits(rt: HostRuntime) -> Result<(), Fail> {
+    let late = [2u32, 3].to_vec(rt.alloc())?;
+    let failing = [3u32].to_vec(rt.alloc())?;
+    let mut peer = MemoryLazyPeer::make(rt.alloc(), Vec::new(rt.alloc()), 3, 4, late, failing)?;
+    assert_eq!(rt; peer.put_now(b"vwxy"), Taken::Bytes(3));
+    assert_eq!(rt; peer.put_now(b"y"), Taken::NotYet);
+    assert_eq!(rt; peer.put_now(b"y"), Taken::Failed);
+    assert_eq!(rt; peer.put_now(b"yz"), Taken::Bytes(1));
+    assert_eq!(rt; peer.put_now(b"z"), Taken::Failed);
+    assert_eq!(rt; peer.written(), b"vwxy".as_slice());
+    Ok(())
+}
