@@ -4,7 +4,7 @@ ghost use Rattle.std.specs.Prelude.{◌≡◌, ◌<◌, length, Ok};
 ghost use Rattle.std.specs.Prelude.{map};
 ghost use Rattle.std.specs.List.{concat};
 ghost use Rattle.network_text.specs.Sheets.{IsSheet};
-ghost use Rattle.network_text.specs.Writing.{link_text, router_text, sheet_text, verdict_in};
+ghost use Rattle.network_text.specs.Writing.{link_text, name_at, router_text, sheet_text, verdict_in};
 ghost use Rattle.wires.specs.Puts.{Puts};
 
 use crate::sheet::Sheet;
@@ -34,9 +34,20 @@ fn write_routers<K: Sink>(sheet: &Sheet, sink: &mut K) -> Result<(), Failed>
     ensures sheet { IsSheet sheet.now.names sheet.now.net }
 {
     for router in 0..sheet.net().routers() {
-        put_pieces(&[b"router ", sheet.name_of(router), b"\n"], sink)?;
+        write_router(sheet, router, sink)?;
     }
     Ok(())
+}
+
+/// Writes the line of a router: of router 0 behind `link b a 007` it is `router b`.
+///
+/// # Errors
+/// [`Failed`] where a put failed. A front of the line was written then.
+pub fn write_router<K: Sink>(sheet: &Sheet, router: u32, sink: &mut K) -> Result<(), Failed>
+    requires { router < length sheet.now.names }
+    ensures puts { Puts K.Sink sink.old sink.new result (router_text (name_at sheet.now.names router)) }
+{
+    put_pieces(&[b"router ", sheet.name_of(router), b"\n"], sink)
 }
 
 /// Writes the line of each link.
@@ -50,8 +61,11 @@ fn write_links<K: Sink>(sheet: &Sheet, sink: &mut K) -> Result<(), Failed>
     Ok(())
 }
 
-/// Writes the line of a link.
-fn write_link<K: Sink>(sheet: &Sheet, link: Link, sink: &mut K) -> Result<(), Failed>
+/// Writes the line of a link: behind `link b a 007` that of the first one is `link b a 7`.
+///
+/// # Errors
+/// [`Failed`] where a put failed. A front of the line was written then.
+pub fn write_link<K: Sink>(sheet: &Sheet, link: Link, sink: &mut K) -> Result<(), Failed>
     requires a { link.a < length sheet.now.names }
     requires b { link.b < length sheet.now.names }
     ensures puts { Puts K.Sink sink.old sink.new result (link_text sheet.now.names link) }
