@@ -1,6 +1,6 @@
 -- The definitions on small examples, by computing.
 use Rattle.std.proofs.Common.{◌≡◌, List, ℕ, [], ◌∷◌, ◌++◌, true, false, Some, None, Result, Ok, Err, refl, codes}
-use Rattle.std.proofs.Common.{map, replicate}
+use Rattle.std.proofs.Common.{length, map, replicate, slice_index_or}
 use Rattle.std.specs.Fmt.{digits}
 use Rattle.cut_model.specs.Net.{Net}
 use Rattle.cut_model.specs.Terminals.{is_terminal, number_in, root_of}
@@ -14,6 +14,7 @@ use Rattle.query_lang.specs.Replies.{bye_text, cut_text, head_text, loaded_text,
 use Rattle.query_lang.specs.Reports.{IsReport}
 use Rattle.query_lang.specs.Requests.{fault_number, request_of}
 use Rattle.query_lang.specs.Trees.{path_text, run_text, tree_text}
+use Rattle.reply_lines.specs.Tails.{lines_in}
 use Rattle.tree_state.specs.Views.{TreeView, up_of, width_of}
 use Rattle.tree_state.specs.History.{tables}
 use Rattle.tree_state.specs.Tables.{below, some_up, up_after, width_after}
@@ -266,6 +267,39 @@ weakest_edge : cut_text 1 (codes "WEAKEST") (width_of grown 3) six.names (map (b
     ≡ codes "@1 WEAKEST 6 side r3 r5\n"
 unfolding digits cut_text six grown tables up_after width_after root_of some_up routers
 weakest_edge = refl
+
+-- The line of a place of a text, counted from 0.
+abbrev line_of : List ℕ → ℕ → List ℕ
+line_of text place = slice_index_or (lines_in text) place []
+
+-- Lines of these replies by their places: the first one tells how many follow.
+path_lines_follow : line_of (path_text 1 six grown (2 ∷ 4 ∷ 1 ∷ 3 ∷ 5 ∷ [])) 0 ≡ codes "@1 PATH 5\n"
+unfolding digits path_text six grown tables up_after width_after root_of
+path_lines_follow = refl
+
+third_edge : line_of (path_text 1 six grown (2 ∷ 4 ∷ 1 ∷ 3 ∷ 5 ∷ [])) 3 ≡ codes "r1 r4 7\n"
+unfolding digits path_text six grown tables up_after width_after root_of
+third_edge = refl
+
+last_of_tree : line_of (tree_text 1 six grown) 5 ≡ codes "r5 r3 8\n"
+unfolding digits tree_text six grown tables up_after width_after is_terminal number_in root_of
+last_of_tree = refl
+
+few_of_tree : length (lines_in (tree_text 1 six grown)) ≡ 6
+unfolding digits tree_text six grown tables up_after width_after is_terminal number_in root_of
+few_of_tree = refl
+
+link_of_network : line_of (net_text 3 sheet) 3 ≡ codes "link a b 5\n"
+unfolding digits net_text sheet_text
+link_of_network = refl
+
+end_of_network : line_of (net_text 3 sheet) 4 ≡ codes "END\n"
+unfolding digits net_text sheet_text
+end_of_network = refl
+
+one_line_of_cut : lines_in (cut_text 1 (codes "CUT") 5 names (true ∷ false ∷ [])) ≡ codes "@1 CUT 5 side a\n" ∷ []
+unfolding digits cut_text
+one_line_of_cut = refl
 
 -- Each request that tells of the whole is answered by its text alone.
 asked_tree : IsReport 3 six grown Tree (tree_text 3 six grown)

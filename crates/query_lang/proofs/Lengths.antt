@@ -30,6 +30,7 @@ use Rattle.query_lang.specs.declared.request.Request.TheVariants.{Cut, Path, Tre
 use Rattle.query_lang.specs.declared.request.Request.TheVariants as asks
 use Rattle.cut_model.specs.declared.network.TheConstants.{MOST_ROUTERS}
 use Rattle.query_lang.specs.declared.buffer.TheConstants.{MOST_REPLY_BYTES}
+use Rattle.reply_lines.specs.declared.run.TheConstants.{MOST_REPLY_LINE_BYTES}
 use Rattle.tree_state.specs.Views.{TreeView, up_of, width_of}
 
 -- Digits put before others are at most as many as are asked for.
@@ -98,6 +99,18 @@ length-side_names (name ∷ names) (inside ∷ side) named =
     let behind = length-side_names names side (All-tail (λ text. IsTrue (is_name text)) name names named) in
     omega (arith, length-append (name_piece name inside) (side_names names side), here, behind)
 
+-- The line that tells a cut is no longer than a line may be.
+pub length-cut_line : (version value : ℕ) (word : List ℕ) (names : List (List ℕ)) (net : Net) (side : List Bool)
+    → length word ≤ 8 → IsSheet names net → length (cut_text version word value names side) ≤ MOST_REPLY_LINE_BYTES
+unfolding cut_text
+length-cut_line version value word names net side short sheet =
+    let head = length-cut_head version value word short in
+    let tail = length-side_names names side sheet.named in
+    let routers : net.routers ≤ MOST_ROUTERS = sheet.limits.few_routers in
+    let all = side_names names side ++ codes "\n" in
+    let length_all = length-append (side_names names side) (codes "\n") in
+    omega (arith, head, tail, routers, sheet.numbered, length-append (cut_head version word value) all, length_all)
+
 -- A cut fits: 33 bytes for each of 1,024 names, and some more.
 pub length-cut_text : (version value : ℕ) (word : List ℕ) (names : List (List ℕ)) (net : Net) (side : List Bool)
     → length word ≤ 8 → IsSheet names net → length (cut_text version word value names side) ≤ MOST_REPLY_BYTES
@@ -129,11 +142,11 @@ length-name_at names router named =
     ]
 
 -- The line of a router, by its name.
-length-router_text : (name : List ℕ) → IsTrue (is_name name) → length (router_text name) ≤ 40
+pub length-router_text : (name : List ℕ) → IsTrue (is_name name) → length (router_text name) ≤ 40
 length-router_text name named = simp length-append (omega (arith, name_short name named))
 
 -- The line of a link: its capacity has at most 13 digits.
-length-link_text : (names : List (List ℕ)) (link : Link) → All (λ name. IsTrue (is_name name)) names
+pub length-link_text : (names : List (List ℕ)) (link : Link) → All (λ name. IsTrue (is_name name)) names
     → link.cap ≤ 1000000000000 → length (link_text names link) ≤ 85
 length-link_text names link named small =
     let first = length-name_at names link.a named in
@@ -175,7 +188,7 @@ length-net_text version sheet is =
     simp length-append (omega (arith, digits_64 version, digits_64 (sheet_lines sheet), tail))
 
 -- The line of an edge: two names, and a number.
-length-edge_line : (names : List (List ℕ)) (child above number : ℕ) → All (λ name. IsTrue (is_name name)) names
+pub length-edge_line : (names : List (List ℕ)) (child above number : ℕ) → All (λ name. IsTrue (is_name name)) names
     → length (edge_line names child above number) ≤ 131
 length-edge_line names child above number named =
     let first = length-name_at names child named in
@@ -183,7 +196,7 @@ length-edge_line names child above number named =
     simp length-append (omega (arith, first, second, digits_64 number))
 
 -- The first line of a reply, with a word of at most eight letters.
-length-short_head : (version lines : ℕ) (word : List ℕ) → length word ≤ 8
+pub length-short_head : (version lines : ℕ) (word : List ℕ) → length word ≤ 8
     → length (head_text version word lines) ≤ 140
 length-short_head version lines word short =
     simp length-append (omega (arith, digits_64 version, digits_64 lines))

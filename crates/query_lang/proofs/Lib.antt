@@ -1,12 +1,15 @@
-pub mod Children
 pub mod CutReports
+pub mod Edges
 pub mod Entries
 pub mod Examples
+pub mod Feeds
 pub mod Fits
 pub mod Lengths
 pub mod NameTexts
 pub mod OneReport
 pub mod PathLengths
+pub mod Places
 pub mod Promises
+pub mod ReportLines
 pub mod RequestKinds
 pub mod SameNames

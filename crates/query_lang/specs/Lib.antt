@@ -1,3 +1,5 @@
+pub mod Edges
+pub mod Found
 pub mod Laws
 pub mod Replies
 pub mod Reports

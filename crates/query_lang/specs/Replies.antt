@@ -1,10 +1,10 @@
 -- The texts of replies. Each begins with the version of the network that it speaks of.
-use Rattle.std.specs.Prelude.{ℕ, ◌+◌, List, [], ◌∷◌, ◌++◌, Bool, length, codes, decimal, if◌then◌else◌, None, Some}
+use Rattle.std.specs.Prelude.{ℕ, ◌+◌, List, [], ◌∷◌, ◌++◌, Bool, length, codes, decimal, map, if◌then◌else◌, None, Some}
 use Rattle.std.specs.List.{concat}
 use Rattle.std.specs.declared.option.Option.{Option}
 use Rattle.cut_model.specs.Net.{Net}
 use Rattle.network_text.specs.Sheets.{SheetView}
-use Rattle.network_text.specs.Writing.{sheet_text}
+use Rattle.network_text.specs.Writing.{link_text, router_text, sheet_text}
 
 -- A network was accepted: its numbers of routers and links.
 unfoldable pub loaded_text : ℕ → Net → List ℕ
@@ -40,6 +40,14 @@ sheet_lines sheet = sheet.net.routers + length sheet.net.links + 1
 -- The network, as a text that loads it again.
 unfoldable pub net_text : ℕ → SheetView → List ℕ
 net_text version sheet = head_text version (codes "NET") (sheet_lines sheet) ++ sheet_text sheet
+
+-- The lines of a sheet as a network text.
+abbrev pub text_lines : SheetView → List (List ℕ)
+text_lines sheet = map router_text sheet.names ++ (map (link_text sheet.names) sheet.net.links ++ codes "END\n" ∷ [])
+
+-- The lines of the reply that tells a network.
+unfoldable pub net_lines : ℕ → SheetView → List (List ℕ)
+net_lines version sheet = head_text version (codes "NET") (sheet_lines sheet) ∷ text_lines sheet
 
 -- A space and the name of a router that is in the side.
 abbrev pub name_piece : List ℕ → Bool → List ℕ

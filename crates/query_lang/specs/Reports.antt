@@ -1,5 +1,6 @@
 -- Which text is the reply to a request that is answered from a network and its tree.
-use Rattle.std.specs.Prelude.{◌≡◌, ℕ, List, Bool, codes, Result}
+use Rattle.std.specs.Prelude.{◌≡◌, ℕ, ◌<◌, ◌≤◌, List, [], Bool, true, false, codes, length, slice_index_or, Result, Ok, Err}
+use Rattle.std.specs.List.{concat}
 use Rattle.cut_model.specs.Cuts.{IsLeastCut, set_of}
 use Rattle.cut_model.specs.Terminals.{root_of}
 use Rattle.network_text.specs.Sheets.{SheetView}
@@ -8,6 +9,8 @@ use Rattle.tree_state.specs.Views.{TreeView, up_of, width_of}
 use Rattle.tree_state.specs.Paths.{IsLeastEdge, IsWeakest, IsGlobalCut, side_for}
 use Rattle.tree_state.specs.Shown.{ShowsSet}
 use Rattle.tree_state.specs.Tables.{below}
+use Rattle.reply_lines.specs.Tails.{lines_in}
+use Rattle.reply_lines.specs.declared.run.TheConstants.{MOST_REPLY_LINE_BYTES}
 use Rattle.wires.specs.Puts.{Puts}
 use Rattle.wires.specs.declared.sinks.Sink.{Ghosts}
 use Rattle.query_lang.specs.declared.request.Request.{Request}
@@ -57,3 +60,32 @@ pub record PutsSome {S E : Type 0} (g : Ghosts S) (old new : S) (result : Result
   pub text : List ℕ
   pub wanted : IsWanted text
   pub puts : Puts g old new result text
+
+-- The lines are those of the text that is the reply to a request, and all of it.
+pub record TellsReport (version : ℕ) (sheet : SheetView) (tree : TreeView) (request : Request) (lines : List (List ℕ)) :
+    Type 0 where
+  pub text : List ℕ
+  pub report : IsReport version sheet tree request text
+  pub lines_are : lines ≡ lines_in text
+  pub whole : concat lines ≡ text
+
+-- There is a line at a place of these, no longer than a line may be, and it was put: all of it, or at a failure a front
+-- of it.
+pub record PutsThis {S E : Type 0} (g : Ghosts S) (old new : S) (result : Result (Unit {0}) E) (lines : List (List ℕ))
+    (place : ℕ) : Type 0 where
+  pub within : place < length lines
+  pub short : length (slice_index_or lines place []) ≤ MOST_REPLY_LINE_BYTES
+  pub puts : Puts g old new result (slice_index_or lines place [])
+
+-- The line of a place of these was put, or there is none and nothing was put, as the answer says.
+abbrev pub PutsAt : {S E : Type 0} → Ghosts S → S → S → Result Bool E → List (List ℕ) → ℕ → Type 0
+PutsAt {E = E} g old new (Ok true) lines place = PutsThis {E = E} g old new (Ok tt) lines place
+PutsAt g old new (Ok false) lines place = (length lines ≤ place) × (new ≡ old)
+PutsAt g old new (Err e) lines place = PutsThis g old new (Err e) lines place
+
+-- The line of a place of a text of the wanted kind was put, where the text has one.
+pub record PutsLineOf {S E : Type 0} (g : Ghosts S) (old new : S) (result : Result Bool E)
+    (IsWanted : List ℕ → Type 0) (place : ℕ) : Type 0 where
+  pub text : List ℕ
+  pub wanted : IsWanted text
+  pub puts : PutsAt g old new result (lines_in text) place

@@ -1,6 +1,5 @@
 -- The texts that tell a tree, the run that made it, and paths in it.
 use Rattle.std.specs.Prelude.{ℕ, ◌-◌, List, [], ◌∷◌, ◌++◌, ◌&&◌, ◌==◌, not, filter, length, map, codes, decimal}
-use Rattle.std.specs.Prelude.{if◌then◌else◌}
 use Rattle.std.specs.List.{concat, range_with_len}
 use Rattle.cut_model.specs.Net.{Net}
 use Rattle.cut_model.specs.Cuts.{RouterSet}
@@ -28,10 +27,6 @@ children_of net = filter (is_child net) (range_with_len 0 net.routers)
 abbrev pub child_line : List (List ℕ) → TreeView → ℕ → List ℕ
 child_line names tree child = edge_line names child (up_of tree child) (width_of tree child)
 
--- That line where there is such an edge, and nothing for the root and for routers that are no terminals.
-abbrev pub child_piece : List (List ℕ) → TreeView → ℕ → List ℕ
-child_piece names tree router = if is_child tree.net router then child_line names tree router else []
-
 -- The tree: for each terminal but the root, the router above it and the width of the edge between the two.
 unfoldable pub tree_text : ℕ → SheetView → TreeView → List ℕ
 tree_text version sheet tree = head_text version (codes "TREE") (terminal_count tree.net - 1)
@@ -50,3 +45,18 @@ run_text version sheet tree = head_text version (codes "RUN") (length tree.histo
 unfoldable pub path_text : ℕ → SheetView → TreeView → List ℕ → List ℕ
 path_text version sheet tree children = head_text version (codes "PATH") (length children)
     ++ concat (map (child_line sheet.names tree) children)
+
+-- The lines of a tree,
+unfoldable pub tree_lines : ℕ → SheetView → TreeView → List (List ℕ)
+tree_lines version sheet tree = head_text version (codes "TREE") (terminal_count tree.net - 1)
+    ∷ map (child_line sheet.names tree) (children_of tree.net)
+
+-- of a run,
+unfoldable pub run_lines : ℕ → SheetView → TreeView → List (List ℕ)
+run_lines version sheet tree = head_text version (codes "RUN") (length tree.history)
+    ∷ map (commit_line sheet.names) tree.history
+
+-- and of a path.
+unfoldable pub path_lines : ℕ → SheetView → TreeView → List ℕ → List (List ℕ)
+path_lines version sheet tree children = head_text version (codes "PATH") (length children)
+    ∷ map (child_line sheet.names tree) children

@@ -2,14 +2,17 @@
 //!
 //! The layer above parses a line and gets what the line asks for, exactly by the definitions in
 //! `specs/Requests.antt`, and writes replies, to a sink or into a `ReplyBuffer`, in which each of them
-//! surely fits. What a reply from a network and its tree says is defined in `specs/Reports.antt`, and
+//! surely fits; one from a network and its tree is a `Report`, told line by line. What a reply from a network and its tree says is defined in `specs/Reports.antt`, and
 //! its texts in `specs/Trees.antt` and `specs/Replies.antt`. Only the making of a buffer takes memory.
 #![tactic(auto)]
 
 mod buffer;
 mod cuts;
+mod found;
 pub mod laws;
+mod nets;
 mod replies;
+mod report;
 mod reports;
 mod request;
 mod subject;
@@ -21,5 +24,6 @@ pub use buffer::{
     MOST_REPLY_BYTES, ReplyBuffer, bye_reply, loaded_reply, refusal_reply, report_reply,
 };
 pub use replies::{write_bye, write_head, write_loaded, write_refusal};
-pub use reports::write_reply;
+pub use report::Report;
+pub use reports::{write_reply, write_reply_line};
 pub use request::{Request, RequestFault, parse_request};
