@@ -1,5 +1,6 @@
 -- The edges of a tree by their numbers.
-use Rattle.std.proofs.Common.{◌≡◌, ℕ, zero, suc, ◌+◌, ◌-◌, ◌<◌, List, [], ◌∷◌, ◌++◌, Bool, true, false, cond, if◌then◌else◌}
+use Rattle.std.proofs.Common.{◌≡◌, ℕ, zero, suc, ◌+◌, ◌-◌, ◌<◌, List, [], ◌∷◌, ◌++◌, Bool, true, false, cond}
+use Rattle.std.proofs.Common.{if◌then◌else◌}
 use Rattle.std.proofs.Common.{length, refl, sym, ap, ◌∙◌, arith, subst, inl, inr, get_or, length-append, add-one}
 use Rattle.std.proofs.lemmas.Bool.{cases_eq, eq-eqb, ne_eqb}
 use Rattle.std.proofs.lemmas.List.{get_or_append_left, map-id}
@@ -51,7 +52,8 @@ length-held_below X (suc n) =
     let more = number_in-more X n in
     let longer : length (held_below X (n + 1)) ≡ number_in X (n + 1) =
     ap length (held_below-more X n) ∙ length-append (held_below X n) (cond (X n) (n ∷ []) [])
-    ∙ elim (X n) as (λ (is : Bool). length (held_below X n) + length (cond is (n ∷ []) []) ≡ (if is then 1 else 0) + number_in X n)
+    ∙ elim (X n) as (λ (is : Bool). length (held_below X n) + length (cond is (n ∷ []) [])
+    ≡ (if is then 1 else 0) + number_in X n)
     [ true ↦ omega (arith, rest) | false ↦ omega (arith, rest) ]
     ∙ sym more in
     subst (λ (m : ℕ). length (held_below X m) ≡ number_in X m) (add-one n) longer
@@ -114,7 +116,8 @@ none_left false b is = refl
 pub length-children_of_terminals : (net : Net) → IsInLimits net → length (children_of net) ≡ terminal_count net - 1
 length-children_of_terminals net limits =
     let root = root_of net in
-    let not_root : is_child net root ≡ false = none_left (is_terminal net root) (root == root) (eq-eqb root root refl) in
+    let not_root : is_child net root ≡ false =
+    none_left (is_terminal net root) (root == root) (eq-eqb root root refl) in
     let new = number_in-new (is_child net) root net.routers not_root (root-lt net limits) in
     let same = number_in-same (with_number root (is_child net)) (is_terminal net) net.routers
     (λ i low. with_root net limits i) in

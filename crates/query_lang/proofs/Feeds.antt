@@ -49,7 +49,8 @@ decimal_clean n = digits_clean 64 10 false n [] (All-nil (λ b. b ≢ 10))
 
 -- A name has none.
 pub name_clean : (name : List ℕ) → IsTrue (is_name name) → NoFeed name
-name_clean name is = All-weaker (λ b. 32 < b) (λ b. b ≢ 10) (λ b above same. omega arith) name (IsWord-name name is).bytes
+name_clean name is =
+    All-weaker (λ b. 32 < b) (λ b. b ≢ 10) (λ b above same. omega arith) name (IsWord-name name is).bytes
 
 -- The name of a router has none, and past the last one there is no byte.
 pub name_at_clean : (names : List (List ℕ)) (router : ℕ) → All (λ name. IsTrue (is_name name)) names
@@ -75,7 +76,8 @@ side_names_clean (name ∷ names) [] named = All-nil (λ b. b ≢ 10)
 side_names_clean (name ∷ names) (inside ∷ side) named =
     let first = name_clean name (All-head (λ text. IsTrue (is_name text)) name names named) in
     let behind = side_names_clean names side (All-tail (λ text. IsTrue (is_name text)) name names named) in
-    All-append (λ b. b ≢ 10) (name_piece name inside) (side_names names side) (name_piece_clean name inside first) behind
+    let here = name_piece_clean name inside first in
+    All-append (λ b. b ≢ 10) (name_piece name inside) (side_names names side) here behind
 
 -- Pieces without one make a text without one,
 pub concat_clean : (pieces : List (List ℕ)) → AllByRecursion NoFeed pieces → NoFeed (concat pieces)

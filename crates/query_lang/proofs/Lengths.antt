@@ -1,5 +1,6 @@
 -- How long replies are at most.
-use Rattle.std.proofs.Common.{◌≡◌, ℕ, ◌+◌, ◌-◌, ◌*◌, ◌/◌, ◌%◌, ◌≤◌, List, [], ◌∷◌, ◌++◌, All, Bool, true, false, IsTrue}
+use Rattle.std.proofs.Common.{◌≡◌, ℕ, ◌+◌, ◌-◌, ◌*◌, ◌/◌, ◌%◌, ◌≤◌, List, [], ◌∷◌, ◌++◌, All, Bool, true, false}
+use Rattle.std.proofs.Common.{IsTrue}
 use Rattle.std.proofs.Common.{nat_eq, if◌then◌else◌, zero, suc, length, arith, codes, decimal, length-append}
 use Rattle.std.proofs.Common.{None, Some, ap, inl, inr, map, slice_index_or}
 use Rattle.std.proofs.lemmas.Bool.{cases_lt}

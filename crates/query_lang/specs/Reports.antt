@@ -1,5 +1,6 @@
 -- Which text is the reply to a request that is answered from a network and its tree.
-use Rattle.std.specs.Prelude.{◌≡◌, ℕ, ◌<◌, ◌≤◌, List, [], Bool, true, false, codes, length, slice_index_or, Result, Ok, Err}
+use Rattle.std.specs.Prelude.{◌≡◌, ℕ, ◌<◌, ◌≤◌, List, [], Bool, true, false, codes, length, slice_index_or, Result, Ok}
+use Rattle.std.specs.Prelude.{Err}
 use Rattle.std.specs.List.{concat}
 use Rattle.cut_model.specs.Cuts.{IsLeastCut, set_of}
 use Rattle.cut_model.specs.Terminals.{root_of}
@@ -69,8 +70,8 @@ pub record TellsReport (version : ℕ) (sheet : SheetView) (tree : TreeView) (re
   pub lines_are : lines ≡ lines_in text
   pub whole : concat lines ≡ text
 
--- There is a line at a place of these, no longer than a line may be, and it was put: all of it, or at a failure a front
--- of it.
+-- There is a line at a place of these, no longer than a line may be, and it was put: all of it, or at a failure a
+-- front of it.
 pub record PutsThis {S E : Type 0} (g : Ghosts S) (old new : S) (result : Result (Unit {0}) E) (lines : List (List ℕ))
     (place : ℕ) : Type 0 where
   pub within : place < length lines

@@ -142,7 +142,8 @@ pub(crate) fn write_found_line<K: Sink>(
     place: u64,
     sink: &mut K,
 ) -> Result<(), Failed>
-    requires place { place < length (found_lines version subject.now.sheet.now subject.now.finished.now.tree found.now) }
+    requires place { place < length (found_lines version subject.now.sheet.now
+        subject.now.finished.now.tree found.now) }
     requires sheet { IsSheet subject.now.sheet.now.names subject.now.sheet.now.net }
     requires found { IsFound subject.now.sheet.now found.now }
     requires passed { IsPassed subject.now.finished.now.tree.net passed.old }

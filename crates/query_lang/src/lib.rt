@@ -2,8 +2,9 @@
 //!
 //! The layer above parses a line and gets what the line asks for, exactly by the definitions in
 //! `specs/Requests.antt`, and writes replies, to a sink or into a `ReplyBuffer`, in which each of them
-//! surely fits; one from a network and its tree is a `Report`, told line by line. What a reply from a network and its tree says is defined in `specs/Reports.antt`, and
-//! its texts in `specs/Trees.antt` and `specs/Replies.antt`. Only the making of a buffer takes memory.
+//! surely fits. A reply from a network and its tree is a `Report`, found once and told line by line. What
+//! it says is defined in `specs/Reports.antt`, and its texts in `specs/Trees.antt` and
+//! `specs/Replies.antt`. Only the making of a buffer takes memory.
 #![tactic(auto)]
 
 mod buffer;

@@ -16,8 +16,8 @@ use Rattle.wires.proofs.Puts.{puts_failed, puts_same, puts_then}
 -- Behind a text that leads to a place the line of that place was put.
 pub puts_next : {S C D E : Type 0} {g : Ghosts S} {old mid new : S} {u : Unit {0}} {result : Result (Unit {0}) E}
     (Line : ℕ → C → List ℕ → C → Type 0) (from : Spot C) (n place : ℕ) (carry carry2 : C) → place < n
-    → PutsTo {E = D} g old mid (Ok u) Line from (spot n place carry) → PutsLine g mid new result Line place carry carry2
-    → PutsTo g old new result Line from (spot n (place + 1) carry2)
+    → PutsTo {E = D} g old mid (Ok u) Line from (spot n place carry)
+    → PutsLine g mid new result Line place carry carry2 → PutsTo g old new result Line from (spot n (place + 1) carry2)
 puts_next {C = C} Line from n place carry carry2 low before put = record {
   text = before.text ++ put.line;
   leads = Leads-trans C Line from (spot n place carry) (spot n (place + 1) carry2) before.text put.line before.leads

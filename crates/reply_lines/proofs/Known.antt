@@ -1,5 +1,6 @@
 -- Replies whose lines are known.
-use Rattle.std.proofs.Common.{◌≡◌, ℕ, zero, suc, ◌+◌, ◌-◌, ◌<◌, List, [], ◌∷◌, ◌++◌, refl, sym, ap, ◌∙◌, arith, length, drop}
+use Rattle.std.proofs.Common.{◌≡◌, ℕ, zero, suc, ◌+◌, ◌-◌, ◌<◌, List, [], ◌∷◌, ◌++◌, refl, sym, ap, ◌∙◌, arith, length}
+use Rattle.std.proofs.Common.{drop}
 use Rattle.std.proofs.Common.{All, append_assoc, drop_of_length-le, add-one, drop-cons, length-append}
 use Rattle.std.proofs.Common.{Bool, true, false, if◌then◌else◌, Result, Ok, Err}
 use Rattle.std.proofs.lemmas.Bool.{eqb-true}
@@ -52,7 +53,14 @@ some_tail C lines (suc left) place carry =
     let on = some_tail C lines left (place + 1) carry in
     let line = slice_index_or lines place [] in (
       line ++ on.0,
-      record { line = line; rest = on.0; carry2 = carry; is = record { at = refl; kept = refl }; joins = refl; on = on.1 },
+      record {
+        line = line;
+        rest = on.0;
+        carry2 = carry;
+        is = record { at = refl; kept = refl };
+        joins = refl;
+        on = on.1;
+      },
     )
 
 -- Where the lines are known, all lines that were put are their text.
@@ -61,7 +69,8 @@ pub known_puts : {S C E : Type 0} {g : Ghosts S} {old new : S} (lines : List (Li
     → Puts g old new result (concat lines)
 known_puts {C = C} lines carry (Ok u) put =
     let done : Tail C (KnownLine C lines) put.last.left put.last.place put.last.carry [] = rw put.all refl in
-    let all = known_only C lines (length lines - 0) 0 carry (put.puts.text ++ []) (omega arith) (put.puts.leads [] done) in
+    let all = known_only C lines (length lines - 0) 0 carry (put.puts.text ++ []) (omega arith)
+    (put.puts.leads [] done) in
     puts_same (sym (append-nil put.puts.text) ∙ all) put.puts.puts
 known_puts {C = C} lines carry (Err e) put =
     let some = some_tail C lines put.last.left put.last.place put.last.carry in

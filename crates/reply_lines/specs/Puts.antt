@@ -14,7 +14,8 @@ pub record PutsLine {S E C : Type 0} (g : Ghosts S) (old new : S) (result : Resu
   pub short : length line ≤ MOST_REPLY_LINE_BYTES
   pub puts : Puts g old new result line
 
--- A text that leads from a spot of a reply to a later one was put into a sink: all of it, or at a failure a front of it.
+-- A text that leads from a spot of a reply to a later one was put into a sink: all of it, or at a failure a front of
+-- it.
 pub record PutsTo {S E C : Type 0} (g : Ghosts S) (old new : S) (result : Result (Unit {0}) E)
     (Line : ℕ → C → List ℕ → C → Type 0) (from to : Spot C) : Type 0 where
   pub text : List ℕ

@@ -6,7 +6,8 @@ pub write_path_line-requires-clause-place : goal.write_path_line-requires-clause
 write_path_line-requires-clause-place g c =
     let sheet = c.args.subject.now.sheet.now in
     let tree = c.args.subject.now.finished.now.tree in
-    omega (arith, rw c.in-Path.is at c.requires.place, length-path_lines c.args.version sheet tree c.in-Path.children.now)
+    let lines = length-path_lines c.args.version sheet tree c.in-Path.children.now in
+    omega (arith, rw c.in-Path.is at c.requires.place, lines)
 
 pub write_tree_line-requires-clause-place : goal.write_tree_line-requires-clause-place
 write_tree_line-requires-clause-place g c =
@@ -23,6 +24,5 @@ write_run_line-requires g c =
 pub write_net_line-requires : goal.write_net_line-requires
 write_net_line-requires g c =
     let sheet = c.args.subject.now.sheet.now in
-    record {
-      place = omega (arith, rw c.in-Net.is at c.requires.place, length-net_lines c.args.version sheet c.requires.sheet.numbered);
-    }
+    let lines = length-net_lines c.args.version sheet c.requires.sheet.numbered in
+    record { place = omega (arith, rw c.in-Net.is at c.requires.place, lines) }

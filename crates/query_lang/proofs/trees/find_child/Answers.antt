@@ -11,7 +11,8 @@ overflow_add-passed-then-edges-edge c =
     let net = c.args.net.now in
     let all = length-children_of_number net in
     let most = number_in-le (is_child net) net.routers in
-    omega (arith, all, most, c.requires.edge, c.if-edges-edge.true, c.routers-router-end.ensures.value, c.routers-router-end.type_inv)
+    let end = c.routers-router-end in
+    omega (arith, all, most, c.requires.edge, c.if-edges-edge.true, end.ensures.value, end.type_inv)
 
 pub returns-then-edges-edge-clause-child : goal.returns-then-edges-edge-clause-child
 returns-then-edges-edge-clause-child c =
@@ -28,7 +29,8 @@ returns-then-edges-edge-clause-passed c =
     let is : is_child net c.loop-router.router ≡ true = sym c.is_lower_end.ensures ∙ c.if-is_lower_end.true in
     record {
       within = omega (arith, c.loop-router-test.true, c.routers-router-end.ensures.value);
-      edges_are = number_in-yes (is_child net) c.loop-router.router c.loop-router.edges is c.loop-router.invariant.edges_are;
+      edges_are = number_in-yes (is_child net) c.loop-router.router c.loop-router.edges is
+          c.loop-router.invariant.edges_are;
     }
 
 pub loop-router-preserved : goal.loop-router-preserved
@@ -40,7 +42,8 @@ loop-router-preserved c =
       | then-is_lower_end+else-edges-edge w ↦ (
           let more = number_in-yes X i c.loop-router.edges (sym c.is_lower_end.ensures ∙ w.if-is_lower_end.true)
           before.edges_are in
-          record { edges_are = more ∙ sym w.edges-is; few = omega (arith, before.few, w.edges-is, w.if-edges-edge.false) })
+          let few = w.if-edges-edge.false in
+          record { edges_are = more ∙ sym w.edges-is; few = omega (arith, before.few, w.edges-is, few) })
       | else-is_lower_end w ↦ (
           let same = number_in-no X i c.loop-router.edges (sym c.is_lower_end.ensures ∙ w.if-is_lower_end.false)
           before.edges_are in

@@ -9,7 +9,8 @@ pub unwrap-requires : goal.unwrap-requires
 unwrap-requires g c =
     let put = c.write_line.ensures.puts in
     let few = ap length c.rest.ensures in
-    put.puts.sure 0 (le-leb _ _ (omega (arith, few, put.short, c.loop-place.invariant.room, c.if-rest-lt-RUN_BYTES.true)))
+    let room = c.loop-place.invariant.room in
+    put.puts.sure 0 (le-leb _ _ (omega (arith, few, put.short, room, c.if-rest-lt-RUN_BYTES.true)))
 
 pub loop-place-preserved : goal.loop-place-preserved
 loop-place-preserved g c =

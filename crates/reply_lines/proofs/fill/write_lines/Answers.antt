@@ -9,11 +9,13 @@ loop-place-preserved g c =
     let ghosts = g.L.ReplyLines in
     let what = ghosts.told c.args.lines.now in
     let put = rw c.loop-place.invariant.told at c.in_ok-write_line.ensures.puts in
-    let low : c.loop-place.place < ghosts.places what = omega (arith, c.count-place-end.ensures, c.loop-place-test.true) in
+    let low : c.loop-place.place < ghosts.places what =
+    omega (arith, c.count-place-end.ensures, c.loop-place-test.true) in
     record {
       told = c.write_line.ensures.told ∙ c.loop-place.invariant.told;
       within = omega (arith, low);
-      puts = puts_next {E = Failed} {result = Ok tt} (ghosts.line what) _ (ghosts.places what) c.loop-place.place _ _ low c.loop-place.invariant.puts put;
+      puts = puts_next {E = Failed} {result = Ok tt} (ghosts.line what) _ (ghosts.places what) c.loop-place.place _ _
+          low c.loop-place.invariant.puts put;
     }
 
 pub returns : goal.returns
@@ -35,9 +37,10 @@ returns-in_err-write_line g c =
     let what = ghosts.told c.args.lines.now in
     let put = rw c.loop-place.invariant.told at c.in_err-write_line.ensures.puts in
     let end = c.from_residual in
-    let low : c.loop-place.place < ghosts.places what = omega (arith, c.count-place-end.ensures, c.loop-place-test.true) in
+    let low : c.loop-place.place < ghosts.places what =
+    omega (arith, c.count-place-end.ensures, c.loop-place-test.true) in
     record {
       told = c.write_line.ensures.told ∙ c.loop-place.invariant.told;
-      puts = puts_stopped (ghosts.line what) (ghosts.places what) c.loop-place.place _ _ _ low c.loop-place.invariant.puts
-          put end.result end.ensures.0;
+      puts = puts_stopped (ghosts.line what) (ghosts.places what) c.loop-place.place _ _ _ low
+          c.loop-place.invariant.puts put end.result end.ensures.0;
     }
