@@ -1,11 +1,11 @@
 //! What is found once for a reply: the edge that a cut is told of, or a path.
-ghost use Rattle.std.specs.Prelude.{◌≡◌, ◌<◌, ◌≤◌, ℕ, IsTrue, Some, All, codes, length, slice_index_or, []};
+ghost use Rattle.std.specs.Prelude.{◌≡◌, ◌<◌, ◌≤◌, ℕ, [], IsTrue, Some, All, codes, length, slice_index_or};
 ghost use Rattle.cut_model.specs.Terminals.{terminal_count};
 ghost use Rattle.network_text.specs.Sheets.{IsSheet};
 ghost use Rattle.query_lang.specs.Edges.{IsPassed};
 ghost use Rattle.query_lang.specs.Found.{IsFound, found_lines};
 ghost use Rattle.query_lang.specs.Replies.{cut_text};
-ghost use Rattle.query_lang.specs.Reports.{IsCutReport, IsPathReport, IsReport, IsWeakestReport, TellsReport};
+ghost use Rattle.query_lang.specs.Reports.{IsCutReport, IsPathReport, IsWeakestReport, TellsReport};
 ghost use Rattle.query_lang.specs.Requests.{AreEnds, IsOf, needs_record};
 ghost use Rattle.query_lang.specs.Trees.{path_text};
 ghost use Rattle.wires.specs.Puts.{Puts};

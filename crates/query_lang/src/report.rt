@@ -1,9 +1,8 @@
 //! A reply from a network and its tree, told line by line.
-ghost use Rattle.std.specs.Prelude.{◌≡◌, IsTrue, Some, length};
+ghost use Rattle.std.specs.Prelude.{◌≡◌, IsTrue, Some};
 ghost use Rattle.path_minimum.specs.Ladders.{IsLadderOf};
 ghost use Rattle.query_lang.specs.Reports.{TellsReport};
 ghost use Rattle.query_lang.specs.Requests.{IsOf, needs_record};
-ghost use Rattle.reply_lines.specs.Tails.{KnownLine};
 
 use crate::Request;
 use crate::found::{Found, find_reply, line_count, write_found_line};

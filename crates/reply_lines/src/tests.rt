@@ -1,6 +1,5 @@
 //! Runs of a small reply, in ample memory.
 ghost use Rattle.std.specs.Prelude.{◌≡◌, ℕ, codes};
-ghost use Rattle.reply_lines.specs.Puts.{PutsLine};
 
 use crate::{LineRun, ReplyLines, fill_run, write_lines};
 use std::test::Fail;
