@@ -6,19 +6,20 @@ use Rattle.std.proofs.lemmas.List.{drop-take}
 use Rattle.std.proofs.lemmas.Grind.{common_steps}
 use Rattle.std.proofs.Math.Seq.{take-append-add}
 use Rattle.text_forms.specs.Lines.{front_of}
-use Rattle.line_reader.specs.declared.lines.TheConstants.{FRONT}
+use Rattle.text_forms.specs.declared.lines.TheConstants.{MOST_LINE_BYTES}
 
 -- a front that is as long as the list can give
 same_front : (xs : List ℕ) (n m : ℕ) → n ≡ min (length xs) m → take n xs ≡ take m xs
 same_front xs n m is = grind (arith, common_steps, take_all)
 
 -- what there is room for of a part, behind what is there, is the front of both
-pub front_add : (old part : List ℕ) (n : ℕ) → length old ≤ FRONT → n ≡ min (length part) (FRONT - length old)
-    → old ++ take n part ≡ front_of (old ++ part)
+pub front_add : (old part : List ℕ) (n : ℕ) → length old ≤ MOST_LINE_BYTES + 1
+    → n ≡ min (length part) (MOST_LINE_BYTES + 1 - length old) → old ++ take n part ≡ front_of (old ++ part)
 front_add old part n most is =
-    let whole : FRONT ≡ length old + (FRONT - length old) = omega arith in
-    ap (λ l. old ++ l) (same_front part n (FRONT - length old) is)
-    ∙ sym (ap (λ k. take k (old ++ part)) whole ∙ take-append-add old part (FRONT - length old))
+    let room = MOST_LINE_BYTES + 1 - length old in
+    let whole : MOST_LINE_BYTES + 1 ≡ length old + room = omega arith in
+    ap (λ l. old ++ l) (same_front part n room is)
+    ∙ sym (ap (λ k. take k (old ++ part)) whole ∙ take-append-add old part room)
 
 -- what follows a front, cut at the same length
 take_on : (k : ℕ) (before part : List ℕ) → take k (take k before ++ part) ≡ take k (before ++ part)
@@ -26,7 +27,7 @@ take_on k before part = grind (arith, common_steps, take_all, take-append-le, ta
 
 -- what there is no room for in a front doesn't change it
 pub front_on : (before part : List ℕ) → front_of (front_of before ++ part) ≡ front_of (before ++ part)
-front_on before part = take_on FRONT before part
+front_on before part = take_on (MOST_LINE_BYTES + 1) before part
 
 -- a list round one of its elements
 around : (xs : List ℕ) (at : ℕ) → at < length xs → xs ≡ take at xs ++ get_or xs at 0 ∷ drop (at + 1) xs

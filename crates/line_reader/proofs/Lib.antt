@@ -1,3 +1,3 @@
 pub mod Examples
 pub mod Fronts
-pub mod Steps
+pub mod Holding

@@ -1,17 +1,24 @@
--- A reader of lines as contracts see it.
-use Rattle.std.specs.Prelude.{◌≡◌, ℕ, List, Bool, false, ◌⊎◌}
-use Rattle.std.specs.declared.option.Option.{Option}
-use Rattle.std.specs.Io.KnownBytes.{prepend_known}
+-- A reader of lines as contracts see it, and the bytes that it holds.
+use Rattle.std.specs.Prelude.{◌≡◌, ℕ, List, [], ◌++◌, Bool, true, false}
+use Rattle.text_forms.specs.Lines.{NoFeed, front_of}
 
--- the bytes that were read and not yet passed, and how many were ever read
+-- the front that is kept of a line, whether that line was taken or isn't ended yet, the bytes that are buffered
+-- behind it, and how many bytes were ever read
 pub record Buffered : Type 0 where
+  pub line : List ℕ
+  pub whole : Bool
   pub bytes : List ℕ
   pub taken : ℕ
 
--- what lies ahead: the bytes that are buffered, and then those that the source has left
-abbrev pub ahead : Buffered → Option (List ℕ) → Option (List ℕ)
-ahead buffered left = prepend_known buffered.bytes left
+-- a reader that has read nothing
+abbrev pub fresh : Buffered
+fresh = record { line = []; whole = false; bytes = []; taken = 0 }
 
--- nothing was read yet, or the end wasn't met
-abbrev pub IsOpen : Buffered → Bool → Type 0
-IsOpen buffered ended = (buffered.taken ≡ 0) ⊎ (ended ≡ false)
+-- these bytes were read and belong to no line that was taken: the line that isn't ended, of which the front is kept,
+-- and what is buffered behind it
+pub record Holds (reader : Buffered) (bytes : List ℕ) : Type 0 where
+  pub open_line : List ℕ
+  pub clean : NoFeed open_line
+  pub begun : reader.whole ≡ true → open_line ≡ []
+  pub front : reader.whole ≡ false → reader.line ≡ front_of open_line
+  pub is : bytes ≡ open_line ++ reader.bytes

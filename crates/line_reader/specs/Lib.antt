@@ -1,3 +1,3 @@
 pub mod Buffered
-pub mod Ends
-pub mod Passing
+pub mod Reading
+pub mod Taking

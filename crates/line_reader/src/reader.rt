@@ -1,190 +1,209 @@
 //! The reader of lines.
-ghost use Rattle.std.specs.Prelude.{◌≡◌, ℕ, ◌+◌, ◌-◌, ◌^◌, ◌<◌, ◌≤◌, ◌⊎◌, List, [], ◌∷◌, ◌++◌, length, take};
-ghost use Rattle.std.specs.Prelude.{drop, true, false, IsTrue, IfOk, OnErr, Ok, vec_len};
-ghost use Rattle.std.specs.Io.KnownBytes.{Consumes, Keeps};
-ghost use Rattle.text_forms.specs.Lines.{NoFeed, front_of};
-ghost use Rattle.wires.specs.Causes.{HasCause};
-ghost use Rattle.line_reader.specs.Ends.{IsOver};
+ghost use Rattle.std.specs.Prelude.{◌≡◌, ℕ, ◌+◌, ◌<◌, ◌≤◌, List, [], length, take, false};
+ghost use Rattle.std.specs.Prelude.{IsTrue, IfOk};
+ghost use Rattle.wires.specs.Lazy.{ReadCounts, ReadTells};
+ghost use Rattle.text_forms.specs.declared.lines.TheConstants.{MOST_LINE_BYTES};
 ghost use Rattle.line_reader.specs.declared.reader.TheConstants.{MOST_BYTES};
 
-use crate::Line;
+use crate::front::{FRONT, add_to_front};
 use crate::search::first_feed;
 use cut_model::NoMemory;
 use std::alloc::Global;
 use std::marker::Model;
-use wires::{Failed, Source};
+use wires::{Got, LazyPeer};
 
-/// The most bytes that a reader ever takes of a source.
+/// The most bytes that a reader ever takes of a peer.
 pub const MOST_BYTES: u64 = 1 << 30;
 
 // The most bytes that are buffered.
 const BUFFER: usize = 65_536;
 
-/// What the next line of a source is.
-#[derive(Clone, Copy, PartialEq, Eq, Debug)]
-pub enum Next {
-    /// A line that a line feed ends. It may be empty.
-    Whole,
-    /// The bytes behind the last line feed, at the end of the input. There is one at least.
-    Last,
-    /// No line: the input ended, and no byte was left.
-    End,
-    /// No line: [`MOST_BYTES`] bytes were taken, and there is no line feed among those that are left of them.
-    TooMuch,
-}
-
-/// Reads the lines of a source one after another, and takes at most [`MOST_BYTES`] bytes of it.
+/// Reads bytes of a peer, at most [`MOST_BYTES`], and parts them into lines.
 ///
-/// It buffers up to 65,536 bytes that it has read ahead, so one reader belongs to one source.
+/// It holds the bytes that were read and belong to no line that was taken: the line that isn't ended, of which
+/// it keeps the front alone, and up to 65,536 bytes that are buffered behind it. So one reader belongs to one
+/// peer. No call but `make` takes memory.
 #[derive(Drop)]
 pub struct LineReader {
     buffer: Vec<u8>,
     from: usize,
     to: usize,
     taken: u64,
+    line: Vec<u8>,
+    whole: bool,
 }
 
 impl Model for LineReader {
-    ghost use Rattle.std.specs.Prelude.{◌-◌, ◌<◌, ◌≤◌, take, drop, vec_len};
+    ghost use Rattle.std.specs.Prelude.{◌-◌, ◌<◌, ◌≤◌, take, drop, vec_capacity, vec_len};
     ghost use Rattle.line_reader.specs.Buffered.{Buffered};
+    ghost use Rattle.line_reader.specs.declared.front.TheConstants.{FRONT};
     ghost use Rattle.line_reader.specs.declared.reader.TheConstants.{MOST_BYTES};
 
     ghost Value = { Buffered };
 
-    ghost view = { λ r. record { bytes = take (r.to - r.from) (drop r.from r.buffer.items); taken = r.taken } };
+    ghost view = { λ r. record {
+      line = r.line.items;
+      whole = r.whole;
+      bytes = take (r.to - r.from) (drop r.from r.buffer.items);
+      taken = r.taken;
+    } };
 
     ghost invariant = { λ r. (r.from ≤ r.to) × (r.to ≤ vec_len r.buffer) × (r.taken ≤ MOST_BYTES)
-        × (0 < vec_len r.buffer) };
+        × (0 < vec_len r.buffer) × (vec_len r.line ≤ FRONT) × (FRONT ≤ vec_capacity r.line) };
 }
 
 impl LineReader {
-    ghost use Rattle.line_reader.specs.Buffered.{IsOpen};
-    ghost use Rattle.line_reader.specs.Passing.{Reads};
+    ghost use Rattle.line_reader.specs.Buffered.{Holds, fresh};
+    ghost use Rattle.line_reader.specs.Taking.{EndsLine, ExtendsLine, LastTells, NextTells};
+    ghost use Rattle.line_reader.specs.Reading.{Reads};
 
     /// A reader that has read nothing yet.
+    ///
+    /// # Errors
+    /// [`NoMemory`] where there is none for the buffer or for the front of a line.
     pub fn make(alloc: Global) -> Result<LineReader, NoMemory>
-        ensures { IfOk result (λ r. r ≡ record { bytes = []; taken = 0 }) }
+        ensures anew { IfOk result (λ r. r ≡ fresh) }
+        ensures holds { IfOk result (λ r. Holds r []) }
     {
         Ok(LineReader {
             buffer: vec![in alloc; 0u8; BUFFER]?,
             from: 0,
             to: 0,
             taken: 0,
+            line: Vec::with_capacity(alloc, FRONT)?,
+            whole: false,
         })
     }
 
-    /// Begins anew: what was read ahead is dropped, and the count of bytes begins at 0. So a reader that
-    /// has buffered `cd` of one source gives the first line of another one.
+    /// Begins anew: the bytes that it holds are dropped, and the count of bytes begins at 0. So a reader that
+    /// holds `cd` of one peer gives the first line of another one.
     pub fn restart(&mut self)
-        ensures { self.new ≡ record { bytes = []; taken = 0 } }
+        ensures anew { self.new ≡ fresh }
+        ensures holds { Holds self.new [] }
     {
         self.from = 0;
         self.to = 0;
         self.taken = 0;
+        self.line.clear();
+        self.whole = false;
     }
 
-    fn is_spent(&self) -> bool
-        ensures spent { IsTrue result → self.now.taken ≡ MOST_BYTES }
-        ensures not_spent { result ≡ false → self.now.taken < MOST_BYTES }
+    // Begins a line where the one before was taken, and else goes on with the one that isn't ended.
+    fn go_on(&mut self)
+        ensures holds { (bytes : List ℕ) → Holds self.old bytes → Holds self.new bytes }
+        ensures unended { self.new.whole ≡ false }
+        ensures bytes { self.new.bytes ≡ self.old.bytes }
+        ensures taken { self.new.taken ≡ self.old.taken }
     {
-        self.taken == MOST_BYTES
+        if self.whole {
+            self.line.clear();
+            self.whole = false;
+        }
     }
 
-    // Reads once. Nothing was buffered before.
-    fn fill<S: Source>(&mut self, source: &mut S) -> Result<usize, Failed>
-        requires budget { self.old.taken < MOST_BYTES }
-        requires empty { self.old.bytes ≡ [] }
-        ensures bytes { Consumes (S.left source.old) (S.left source.new) self.new.bytes }
-        ensures count { IfOk result (λ n. (length self.new.bytes ≡ n) × (self.new.taken ≡ self.old.taken + n)) }
-        ensures none { OnErr result ((self.new.bytes ≡ []) × (self.new.taken ≡ self.old.taken)) }
-        ensures end { result ≡ Ok 0 → IsOver (S.ended source.new) (S.left source.new) }
-        ensures some { IfOk result (λ n. 0 < n → S.ended source.new ≡ false) }
-        ensures failed { OnErr result (S.ended source.new ≡ false) }
-        ensures most { self.new.taken ≤ MOST_BYTES }
-        ensures cause { HasCause (S.read_faults source.old) (S.read_faults source.new) result }
-        ensures beside { S.beside_source source.new ≡ S.beside_source source.old }
-    {
-        let room = self.buffer.len().min((MOST_BYTES - self.taken) as usize);
-        self.from = 0;
-        self.to = 0;
-        let count = read_front(source, &mut self.buffer, room)?;
-        self.to = count;
-        self.taken += count as u64;
-        Ok(count)
-    }
-
-    // Passes what is buffered up to a line feed, or all of it, and says whether the feed was there.
-    fn take_part(&mut self, line: &mut Line) -> bool
-        ensures found { IsTrue result
-            → (l : List ℕ) × NoFeed l × (self.old.bytes ≡ l ++ 10 ∷ self.new.bytes)
-            × (line.new ≡ front_of (line.old ++ l)) }
-        ensures all { result ≡ false
-            → NoFeed self.old.bytes × (self.new.bytes ≡ []) × (line.new ≡ front_of (line.old ++ self.old.bytes)) }
+    // Adds to the line what is buffered up to a line feed, or all of it, and says whether the feed was there.
+    fn add_part(&mut self) -> bool
+        requires unended { self.old.whole ≡ false }
+        ensures found { IsTrue result → EndsLine self.old self.new }
+        ensures all { result ≡ false → ExtendsLine self.old self.new }
         ensures taken { self.new.taken ≡ self.old.taken }
     {
         let part = &self.buffer[self.from..self.to];
         match first_feed(part) {
             Some(at) => {
-                line.add(&part[..at]);
+                add_to_front(&mut self.line, &part[..at]);
                 self.from += at + 1;
+                self.whole = true;
                 true
             }
             None => {
-                line.add(part);
+                add_to_front(&mut self.line, part);
                 self.from = self.to;
                 false
             }
         }
     }
 
-    /// Passes the next line of the source, and puts its front into `line`. At [`Next::End`] and
-    /// [`Next::TooMuch`] the bytes that it leaves in `line` are no line. Over `ab\nc` it answers `Ok(Whole)`
-    /// with `ab`, then `Ok(Last)` with `c`, and then `Ok(End)`.
+    /// Takes the next whole line out of what was read, and says whether there is one, whose front `line` gives
+    /// then. Of `ab\nc` it takes `ab` and answers `true`, and then `false`, as `c` isn't ended. Each byte that
+    /// was read is looked at once, also where a long line comes in small pieces.
+    pub fn next_line(&mut self) -> bool
+        ensures tells { (bytes : List ℕ) → Holds self.old bytes → NextTells result bytes self.new }
+        ensures fewer { IsTrue result → length self.new.bytes < length self.old.bytes }
+        ensures empty { result ≡ false → self.new.bytes ≡ [] }
+        ensures taken { self.new.taken ≡ self.old.taken }
+    {
+        self.go_on();
+        self.add_part()
+    }
+
+    /// The front of the line that the call before took: all of the line, or one byte more than a line may
+    /// have. Behind a call that took none it is no line.
+    pub fn line(&self) -> &[u8]
+        ensures bytes { result.now ≡ self.now.line }
+        ensures most { length result.now ≤ MOST_LINE_BYTES + 1 }
+    {
+        self.line.as_slice()
+    }
+
+    /// Where the input has ended and nothing is buffered: takes what stands behind the last line feed as a
+    /// line, and says whether there is any. Of `ab\nc` it takes `c` behind `ab` and answers `true`, and then
+    /// `false`.
+    pub fn last_line(&mut self) -> bool
+        requires empty { self.old.bytes ≡ [] }
+        ensures tells { (bytes : List ℕ) → Holds self.old bytes → LastTells result bytes self.new }
+        ensures bytes { self.new.bytes ≡ [] }
+        ensures taken { self.new.taken ≡ self.old.taken }
+    {
+        let some = !self.whole && !self.line.is_empty();
+        if some {
+            self.whole = true;
+        }
+        some
+    }
+
+    /// Whether [`MOST_BYTES`] were read.
+    pub fn is_spent(&self) -> bool
+        ensures spent { IsTrue result → self.now.taken ≡ MOST_BYTES }
+        ensures not_spent { result ≡ false → self.now.taken < MOST_BYTES }
+    {
+        self.taken == MOST_BYTES
+    }
+
+    /// Reads once, where nothing is buffered and fewer than [`MOST_BYTES`] were read. The bytes that come are
+    /// held behind those that are held already. Of a peer that has `ab\nc` left it may answer `Bytes(4)`, or
+    /// `Bytes(1)` and have `b\nc` left for later calls.
     ///
     /// # Errors
-    /// [`Failed`] where a read failed, at the first that does. The part of a line that was passed before is
-    /// lost to later calls.
-    pub fn next_line<S: Source>(&mut self, source: &mut S, line: &mut Line) -> Result<Next, Failed>
-        ensures reads { Reads self.old (S.left source.old) self.new (S.left source.new) (S.ended source.new) line.new
-            result }
-        ensures open { IsOpen self.old (S.ended source.old)
-            → (result ≡ Ok Next.Whole) ⊎ (result ≡ Ok Next.TooMuch)
-            → IsOpen self.new (S.ended source.new) }
-        ensures most { self.old.taken ≤ MOST_BYTES → self.new.taken ≤ MOST_BYTES }
-        ensures cause { HasCause (S.read_faults source.old) (S.read_faults source.new) result }
-        ensures beside { S.beside_source source.new ≡ S.beside_source source.old }
+    /// `End`, `NotYet` and `Failed` as the peer answers them: the reader holds what it held before.
+    pub fn read_now<P: LazyPeer>(&mut self, peer: &mut P) -> Got
+        requires budget { self.old.taken < MOST_BYTES }
+        requires empty { self.old.bytes ≡ [] }
+        ensures reads { Reads result self.old self.new (P.wire peer.old) (P.wire peer.new) }
+        ensures most { self.new.taken ≤ MOST_BYTES }
+        ensures counts { ReadCounts result (P.counts peer.old) (P.counts peer.new) }
+        ensures beside { P.beside_lazy peer.new ≡ P.beside_lazy peer.old }
     {
-        line.clear();
-        loop {
-            if self.take_part(line) {
-                return Ok(Next::Whole);
+        let room = self.buffer.len().min((MOST_BYTES - self.taken) as usize);
+        self.from = 0;
+        self.to = 0;
+        match read_front(peer, &mut self.buffer, room) {
+            Got::Bytes(count) => {
+                self.to = count;
+                self.taken += count as u64;
+                Got::Bytes(count)
             }
-            if self.is_spent() {
-                return Ok(Next::TooMuch);
-            }
-            if self.fill(source)? == 0 {
-                return Ok(if line.is_empty() {
-                    Next::End
-                } else {
-                    Next::Last
-                });
-            }
+            other => other,
         }
     }
 }
 
 // Reads at most so many bytes into the front of a buffer.
-fn read_front<S: Source>(source: &mut S, buffer: &mut [u8], most: usize) -> Result<usize, Failed>
+fn read_front<P: LazyPeer>(peer: &mut P, buffer: &mut [u8], most: usize) -> Got
     requires room { most ≤ length buffer.old }
-    requires some { 0 < most }
-    ensures bound { IfOk result (λ n. n ≤ most) }
-    ensures bytes { IfOk result (λ n. Consumes (S.left source.old) (S.left source.new) (take n buffer.new)) }
-    ensures none { OnErr result (Keeps (S.left source.old) (S.left source.new)) }
-    ensures end { result ≡ Ok 0 → IsOver (S.ended source.new) (S.left source.new) }
-    ensures some { IfOk result (λ n. 0 < n → S.ended source.new ≡ false) }
-    ensures failed { OnErr result (S.ended source.new ≡ false) }
-    ensures cause { HasCause (S.read_faults source.old) (S.read_faults source.new) result }
-    ensures beside { S.beside_source source.new ≡ S.beside_source source.old }
+    ensures tells { ReadTells result (take most buffer.new) (P.wire peer.old) (P.wire peer.new) }
+    ensures counts { ReadCounts result (P.counts peer.old) (P.counts peer.new) }
+    ensures beside { P.beside_lazy peer.new ≡ P.beside_lazy peer.old }
 {
-    source.read(&mut buffer[..most])
+    peer.read_now(&mut buffer[..most])
 }

@@ -13,10 +13,10 @@ none_taken told taken rest before after many =
     omega (arith, ap length same, length-append taken rest)
 
 -- where there was no memory to begin with, `plan` leaves the source as it was
-pub no_memory : (run : RunView) → run.left ≡ run.left0 → PlanRan NoMemory run
+pub no_memory : (run : RunView) → run.now.wire.left ≡ run.start.wire.left → PlanRan NoMemory run
 no_memory run same = record {
   ends = tt;
   completes = λ bytes is few reads puts. inr refl;
   always_too_long = λ taken rest before after many unmet quiet sound.
-      absurd (none_taken run.left0 taken rest before (sym same ∙ after) many);
+      absurd (none_taken run.start.wire.left taken rest before (sym same ∙ after) many);
 }

@@ -8,48 +8,67 @@ use Rattle.planner_server.specs.declared.outcome.Status.{Status}
 use Rattle.planner_server.specs.declared.outcome.Status.TheVariants.{Done, BadWords, ReadFault, WriteFault}
 use Rattle.planner_server.specs.declared.outcome.Status.TheVariants.{NoMemory, TooLong}
 use Rattle.session.specs.Answers.{Alone}
-use Rattle.session.specs.Sessions.{Breaks, Ends, IsComplete, IsCutShort, IsTooLong}
+use Rattle.session.specs.Sessions.{Breaks, Ends, IsComplete, IsCutShort, IsTooLong, Moment}
 use Rattle.text_forms.specs.Items.{Item, NoBye, items_of}
 use Rattle.tree_versions.specs.Records.{RecordView}
 use Rattle.wires.specs.Causes.{Rose}
+use Rattle.wires.specs.Lazy.{Wire}
+use Rattle.wires.specs.declared.sinks.Sink.{Ghosts as SinkGhosts}
+use Rattle.wires.specs.declared.sources.Source.{Ghosts as SourceGhosts}
 
--- What a run met and what it left: the bytes that the source has left, whether its end was met, the text in the sink,
--- how often either has failed, and the records that are handed back. A name that ends in 0 is of the time before.
-pub record RunView : Type 0 where
-  pub left0 : Option (List ℕ)
-  pub left : Option (List ℕ)
-  pub ended : Bool
-  pub read_faults0 : ℕ
+-- What a source and a sink show at a moment: the bytes that are left and were written, whether the end was met, and how
+-- often either has failed.
+pub record Ports : Type 0 where
+  pub wire : Wire
   pub read_faults : ℕ
-  pub written0 : Option (List ℕ)
-  pub written : Option (List ℕ)
-  pub write_faults0 : ℕ
   pub write_faults : ℕ
+
+-- those of two objects
+abbrev pub ports : {S K : Type 0} → SourceGhosts S → SinkGhosts K → S → K → Ports
+ports g h source sink = record {
+  wire = record { left = g.left source; ended = g.ended source; written = h.written sink };
+  read_faults = g.read_faults source;
+  write_faults = h.write_faults sink;
+}
+
+-- What a run met and what it left: what the source and the sink showed before and show now, and the records that are
+-- handed back.
+pub record RunView : Type 0 where
+  pub start : Ports
+  pub now : Ports
   pub records : List RecordView
 
 -- the source failed in the run
 abbrev pub ReadFailed : RunView → Type 0
-ReadFailed run = Rose run.read_faults0 run.read_faults
+ReadFailed run = Rose run.start.read_faults run.now.read_faults
 
 -- the sink failed in the run
 abbrev pub WriteFailed : RunView → Type 0
-WriteFailed run = Rose run.write_faults0 run.write_faults
+WriteFailed run = Rose run.start.write_faults run.now.write_faults
 
 -- What was written answers the whole items of the bytes that were taken, over the records of the run and no others, and
 -- P holds of these bytes and items.
 abbrev pub AnswersItems : (List ℕ → List Item → Type 0) → RunView → Type 0
-AnswersItems P run = Ends P run.left0 run.written0 run.left run.ended run.written (Alone run.records 0)
+AnswersItems P run = Ends P run.start.wire run.now.wire (Alone run.records 0)
+
+-- a shelf without records, before the run
+abbrev pub moment_before : RunView → Moment
+moment_before run = record { shelf = record { seen = []; published = 0 }; wire = run.start.wire }
+
+-- that shelf with the records of the run
+abbrev pub moment_behind : RunView → Moment
+moment_behind run =
+    record { shelf = record { seen = run.records; published = length run.records }; wire = run.now.wire }
 
 -- What was written answers a front of these items so, but for a part of the last of these replies.
 abbrev pub AnswersFront : RunView → Type 0
-AnswersFront run =
-    Breaks run.left0 run.written0 run.left run.ended run.written true [] 0 run.records (length run.records)
+AnswersFront run = Breaks true (moment_before run) (moment_behind run)
 
 -- what was written in a run of `plan` that ended so
 abbrev pub PlanEnds : Status → RunView → Type 0
-PlanEnds Done run = AnswersItems (IsComplete run.ended run.left) run
-PlanEnds ReadFault run = AnswersItems (IsCutShort run.ended) run
-PlanEnds TooLong run = AnswersItems (IsTooLong run.ended) run
+PlanEnds Done run = AnswersItems (IsComplete run.now.wire) run
+PlanEnds ReadFault run = AnswersItems (IsCutShort run.now.wire) run
+PlanEnds TooLong run = AnswersItems (IsTooLong run.now.wire) run
 PlanEnds WriteFault run = AnswersFront run
 PlanEnds NoMemory run = Unit {0}
 PlanEnds BadWords run = ⊥
@@ -59,10 +78,10 @@ PlanEnds BadWords run = ⊥
 -- wasn't met, they are too many, unless the sink failed.
 pub record PlanRan (status : Status) (run : RunView) : Type 0 where
   pub ends : PlanEnds status run
-  pub completes : (bytes : List ℕ) → run.left0 ≡ Some bytes → length bytes < MOST_BYTES → (ReadFailed run → ⊥)
-      → (WriteFailed run → ⊥) → (status ≡ Done) ⊎ (status ≡ NoMemory)
-  pub always_too_long : (taken rest : List ℕ) → run.left0 ≡ Some (taken ++ rest) → run.left ≡ Some rest
-      → length taken ≡ MOST_BYTES → run.ended ≡ false → NoBye (items_of false taken) → (WriteFailed run → ⊥)
+  pub completes : (bytes : List ℕ) → run.start.wire.left ≡ Some bytes → length bytes < MOST_BYTES
+      → (ReadFailed run → ⊥) → (WriteFailed run → ⊥) → (status ≡ Done) ⊎ (status ≡ NoMemory)
+  pub always_too_long : (taken rest : List ℕ) → run.start.wire.left ≡ Some (taken ++ rest)
+      → run.now.wire.left ≡ Some rest → length taken ≡ MOST_BYTES → run.now.wire.ended ≡ false → NoBye (items_of false taken) → (WriteFailed run → ⊥)
       → status ≡ TooLong
 
 -- the command was run, ended so, and met and left this

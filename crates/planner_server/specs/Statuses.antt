@@ -1,8 +1,9 @@
 -- The statuses of a run.
+use Rattle.std.specs.Prelude.{Bool, false, true}
 use Rattle.planner_server.specs.declared.outcome.Status.{Status}
 use Rattle.planner_server.specs.declared.outcome.Status.TheVariants.{Done, ReadFault, WriteFault, TooLong}
-use Rattle.session.specs.declared.serve.SessionEnd.{SessionEnd}
-use Rattle.session.specs.declared.serve.SessionEnd.TheVariants as ends
+use Rattle.session.specs.declared.session.SessionEnd.{SessionEnd}
+use Rattle.session.specs.declared.session.SessionEnd.TheVariants as ends
 
 -- the status that a session's end gives
 abbrev pub status_of : SessionEnd → Status
@@ -10,3 +11,13 @@ status_of ends.Done = Done
 status_of ends.ReadFault = ReadFault
 status_of ends.WriteFault = WriteFault
 status_of ends.TooLong = TooLong
+
+-- the run ended by a failed read
+abbrev pub is_read_fault : Status → Bool
+is_read_fault ReadFault = true
+is_read_fault status = false
+
+-- the run ended by a failed put
+abbrev pub is_write_fault : Status → Bool
+is_write_fault WriteFault = true
+is_write_fault status = false

@@ -17,7 +17,7 @@ pub enum Status {
     WriteFault,
     /// There was no memory to begin with. Nothing was read or written.
     NoMemory,
-    /// [`MOST_BYTES`] were read, and neither the end of the input nor a BYE came.
+    /// [`MOST_BYTES`](line_reader::MOST_BYTES) were read, and neither the end of the input nor a BYE came.
     TooLong,
 }
 
@@ -26,6 +26,6 @@ pub enum Status {
 pub struct Outcome {
     /// How it ended.
     pub status: Status,
-    /// The networks that were published, version 1 first: at most [`MOST_RECORDS`].
+    /// The networks that were published, version 1 first: at most [`MOST_RECORDS`](tree_versions::MOST_RECORDS).
     pub records: Vec<Arc<Record>>,
 }

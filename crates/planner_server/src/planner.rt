@@ -4,12 +4,12 @@ ghost use Rattle.std.specs.Prelude.{length, map, IfOk, IfSome};
 ghost use Rattle.std.specs.String.{string_bytes};
 ghost use Rattle.job_queue.specs.declared.jobs.TheConstants.{MOST_WORKERS};
 ghost use Rattle.planner_server.specs.Commands.{command_of};
-ghost use Rattle.planner_server.specs.Runs.{PlanRan, Ran};
-ghost use Rattle.planner_server.specs.Statuses.{status_of};
+ghost use Rattle.planner_server.specs.Runs.{PlanRan, Ran, ports};
+ghost use Rattle.planner_server.specs.Statuses.{is_read_fault, is_write_fault, status_of};
 ghost use Rattle.tree_versions.specs.Records.{AreCutTrees, AreFinished};
 ghost use Rattle.tree_versions.specs.Solo.{views_of};
 ghost use Rattle.tree_versions.specs.declared.shelf.TheConstants.{MOST_RECORDS};
-ghost use Rattle.wires.specs.Causes.{Rose};
+ghost use Rattle.wires.specs.Causes.{CountsOne};
 
 use crate::command::{Command, read_command};
 use crate::{Outcome, Status};
@@ -82,24 +82,17 @@ fn serve_both<R: Threads + Wait + Sync, S: Source, K: Sink, G: Gate + Sync>(
 ) -> SessionEnd
     requires none { shelf.old.records ≡ [] }
     ensures ran { PlanRan (status_of result) (record {
-      left0 = S.left source.old;
-      left = S.left source.new;
-      ended = S.ended source.new;
-      read_faults0 = S.read_faults source.old;
-      read_faults = S.read_faults source.new;
-      written0 = K.written sink.old;
-      written = K.written sink.new;
-      write_faults0 = K.write_faults sink.old;
-      write_faults = K.write_faults sink.new;
+      start = ports S.Source K.Sink source.old sink.old;
+      now = ports S.Source K.Sink source.new sink.new;
       records = shelf.new.records;
     }) }
     ensures few { length shelf.new.records ≤ MOST_RECORDS }
     ensures runs { AreFinished shelf.new.records }
     ensures trees { AreCutTrees shelf.new.records }
-    ensures read_fault { result ≡ SessionEnd.ReadFault → Rose (S.read_faults source.old) (S.read_faults source.new) }
-    ensures write_fault { result ≡ SessionEnd.WriteFault → Rose (K.write_faults sink.old) (K.write_faults sink.new) }
-    ensures reads { S.read_faults source.old ≤ S.read_faults source.new }
-    ensures writes { K.write_faults sink.old ≤ K.write_faults sink.new }
+    ensures read_cause { CountsOne (S.read_faults source.old) (S.read_faults source.new)
+        (is_read_fault (status_of result)) }
+    ensures write_cause { CountsOne (K.write_faults sink.old) (K.write_faults sink.new)
+        (is_write_fault (status_of result)) }
     ensures beside_source { S.beside_source source.new ≡ S.beside_source source.old }
     ensures beside_sink { K.beside_sink sink.new ≡ K.beside_sink sink.old }
 {
@@ -118,15 +111,8 @@ fn plan<R: Threads + Wait + Sync, S: Source, K: Sink, G: Gate + Sync>(
     requires some { 0 < workers }
     requires most { workers ≤ MOST_WORKERS }
     ensures ran { PlanRan result.status (record {
-      left0 = S.left source.old;
-      left = S.left source.new;
-      ended = S.ended source.new;
-      read_faults0 = S.read_faults source.old;
-      read_faults = S.read_faults source.new;
-      written0 = K.written sink.old;
-      written = K.written sink.new;
-      write_faults0 = K.write_faults sink.old;
-      write_faults = K.write_faults sink.new;
+      start = ports S.Source K.Sink source.old sink.old;
+      now = ports S.Source K.Sink source.new sink.new;
       records = views_of result.records.items;
     }) }
     ensures good_words { result.status ≢ Status.BadWords }
@@ -135,10 +121,10 @@ fn plan<R: Threads + Wait + Sync, S: Source, K: Sink, G: Gate + Sync>(
     ensures few { length (views_of result.records.items) ≤ MOST_RECORDS }
     ensures runs { AreFinished (views_of result.records.items) }
     ensures trees { AreCutTrees (views_of result.records.items) }
-    ensures read_cause { result.status ≡ Status.ReadFault → Rose (S.read_faults source.old) (S.read_faults source.new) }
-    ensures write_cause { result.status ≡ Status.WriteFault → Rose (K.write_faults sink.old) (K.write_faults sink.new) }
-    ensures reads { S.read_faults source.old ≤ S.read_faults source.new }
-    ensures writes { K.write_faults sink.old ≤ K.write_faults sink.new }
+    ensures read_cause { CountsOne (S.read_faults source.old) (S.read_faults source.new)
+        (is_read_fault result.status) }
+    ensures write_cause { CountsOne (K.write_faults sink.old) (K.write_faults sink.new)
+        (is_write_fault result.status) }
     ensures beside_source { S.beside_source source.new ≡ S.beside_source source.old }
     ensures beside_sink { K.beside_sink sink.new ≡ K.beside_sink sink.old }
 {
@@ -168,9 +154,9 @@ fn plan<R: Threads + Wait + Sync, S: Source, K: Sink, G: Gate + Sync>(
 /// what a text must be to be such a reply is `IsCutReport` (`query_lang/specs/Reports.antt`), and that
 /// is its field `least`. That to WEAKEST is so for the whole network (`IsWeakestReport`).
 ///
-/// `NoMemory` comes only before the first read. A run takes at most [`MOST_BYTES`] from its source, keeps
-/// at most [`MOST_RECORDS`](tree_versions::MOST_RECORDS) records of up to about 400 kB each, and some 820 kB beside;
-/// while a tree is built, it takes up to 450 kB for each worker.
+/// `NoMemory` comes only before the first read. A run takes at most [`MOST_BYTES`](line_reader::MOST_BYTES)
+/// from its source, keeps at most [`MOST_RECORDS`](tree_versions::MOST_RECORDS) records of up to about 400 kB
+/// each, and some 180 kB beside; while a tree is built, it takes up to 450 kB for each worker.
 pub fn run<R: Threads + Wait + Sync, S: Source, K: Sink, G: Gate + Sync>(
     alloc: Global,
     rt: &R,
@@ -181,15 +167,8 @@ pub fn run<R: Threads + Wait + Sync, S: Source, K: Sink, G: Gate + Sync>(
 ) -> Outcome
     // The command was run: what was written, over the records that are handed back and no others.
     ensures ran { IfSome (command_of (map string_bytes words.now)) (λ command. Ran command result.status (record {
-      left0 = S.left source.old;
-      left = S.left source.new;
-      ended = S.ended source.new;
-      read_faults0 = S.read_faults source.old;
-      read_faults = S.read_faults source.new;
-      written0 = K.written sink.old;
-      written = K.written sink.new;
-      write_faults0 = K.write_faults sink.old;
-      write_faults = K.write_faults sink.new;
+      start = ports S.Source K.Sink source.old sink.old;
+      now = ports S.Source K.Sink source.new sink.new;
       records = views_of result.records.items;
     })) }
 
@@ -205,13 +184,12 @@ pub fn run<R: Threads + Wait + Sync, S: Source, K: Sink, G: Gate + Sync>(
     ensures runs { AreFinished (views_of result.records.items) }
     ensures trees { AreCutTrees (views_of result.records.items) }
 
-    // Each fault has its cause.
-    ensures read_cause { result.status ≡ Status.ReadFault → Rose (S.read_faults source.old) (S.read_faults source.new) }
-    ensures write_cause { result.status ≡ Status.WriteFault → Rose (K.write_faults sink.old) (K.write_faults sink.new) }
-
-    // No count of faults falls.
-    ensures reads { S.read_faults source.old ≤ S.read_faults source.new }
-    ensures writes { K.write_faults sink.old ≤ K.write_faults sink.new }
+    // Each count of faults is one more where the run ended by such a fault, and else as before: a run ends at the
+    // first fault.
+    ensures read_cause { CountsOne (S.read_faults source.old) (S.read_faults source.new)
+        (is_read_fault result.status) }
+    ensures write_cause { CountsOne (K.write_faults sink.old) (K.write_faults sink.new)
+        (is_write_fault result.status) }
 
     // Nothing else of the two objects changed.
     ensures beside_source { S.beside_source source.new ≡ S.beside_source source.old }

@@ -3,11 +3,9 @@ pub mod Edges
 pub mod Entries
 pub mod Examples
 pub mod Feeds
-pub mod Fits
 pub mod Lengths
 pub mod NameTexts
 pub mod OneReport
-pub mod PathLengths
 pub mod Places
 pub mod Promises
 pub mod ReportLines

@@ -1,13 +1,11 @@
 //! The request lines and the replies.
 //!
 //! The layer above parses a line and gets what the line asks for, exactly by the definitions in
-//! `specs/Requests.antt`, and writes replies, to a sink or into a `ReplyBuffer`, in which each of them
-//! surely fits. A reply from a network and its tree is a `Report`, found once and told line by line. What
-//! it says is defined in `specs/Reports.antt`, and its texts in `specs/Trees.antt` and
-//! `specs/Replies.antt`. Only the making of a buffer takes memory.
+//! `specs/Requests.antt`, and writes replies to a sink. A reply from a network and its tree is a `Report`,
+//! found once and told line by line. What it says is defined in `specs/Reports.antt`, and its texts in
+//! `specs/Trees.antt` and `specs/Replies.antt`. No call takes memory.
 #![tactic(auto)]
 
-mod buffer;
 mod cuts;
 mod found;
 pub mod laws;
@@ -17,13 +15,8 @@ mod report;
 mod reports;
 mod request;
 mod subject;
-#[cfg(test)]
-mod tests;
 mod trees;
 
-pub use buffer::{
-    MOST_REPLY_BYTES, ReplyBuffer, bye_reply, loaded_reply, refusal_reply, report_reply,
-};
 pub use replies::{write_bye, write_head, write_loaded, write_refusal};
 pub use report::Report;
 pub use reports::{write_reply, write_reply_line};

@@ -25,7 +25,7 @@ use Rattle.session.specs.Answers.{Answers, IsReply, IsTold, LoadStep, KeepsVersi
 use Rattle.session.specs.Modes.{Gives, IsReached, IsServed, LeadsOn}
 use Rattle.text_forms.specs.Items.{Item, Ask, Load, Bye}
 use Rattle.tree_versions.specs.Records.{RecordView, Grows, record_at}
-use Rattle.tree_versions.specs.Shelves.{Looks}
+use Rattle.session.specs.Shelved.{IsLook, Shelved}
 use Rattle.tree_versions.specs.declared.shelf.TheConstants.{MOST_RECORDS}
 
 -- a number and nothing
@@ -58,7 +58,7 @@ slice_get-grown (y ∷ xs) more zero low = refl
 slice_get-grown (y ∷ xs) more (suc i) low = slice_get-grown xs more i (omega arith)
 
 -- the record of a version stays where records are added behind
-record_at-grown : (records more : List RecordView) (version : ℕ) → version ≤ length records
+pub record_at-grown : (records more : List RecordView) (version : ℕ) → version ≤ length records
     → record_at (records ++ more) version ≡ record_at records version
 record_at-grown records more zero low = refl
 record_at-grown records more (suc version) low = slice_get-grown records more version (omega arith)
@@ -153,99 +153,84 @@ Grows-length a b p = omega (arith, ap length p.1, length-append a p.0)
 pub grows_none : (records : List RecordView) → Grows records records
 grows_none records = ([], sym (append-nil records))
 
--- two looks, one after the other
-pub Looks-trans : (alone : Bool) (a b c : List RecordView) → Looks alone a b → Looks alone b c → Looks alone a c
-Looks-trans alone a b c p q = record {
-  grows = Grows-trans a b c p.grows q.grows;
-  still = λ only. q.still only ∙ p.still only;
-}
-
 -- what is served goes on by what a line gives
-pub IsServed-on : (alone : Bool) (seen0 : List RecordView) (published0 : ℕ) (records after : List RecordView)
-    (published published2 : ℕ)
-    (done items : List Item) (text out : List ℕ)
-    → IsServed alone seen0 published0 records published done text → Gives alone records published items out after
-    published2
-    → IsServed alone seen0 published0 after published2 (done ++ items) (text ++ out)
-IsServed-on alone seen0 published0 records after published published2 done items text out p gives =
+pub IsServed-on : (alone : Bool) (start now after : Shelved) (done items : List Item) (text out : List ℕ)
+    → IsServed alone start now done text → Gives alone now items out after
+    → IsServed alone start after (done ++ items) (text ++ out)
+IsServed-on alone start now after done items text out p gives =
     let a = p.answers in
     let b = gives.leads.on a.last a.reached in record {
       loads = p.loads + gives.loads;
-      grows = Grows-trans seen0 records after p.grows gives.leads.grows;
+      grows = Grows-trans start.seen now.seen after.seen p.grows gives.leads.grows;
       counted = omega (arith, p.counted, gives.counted);
       answers = record {
         last = b.last;
         reached = b.reached;
-        fact = Answers-append alone after done items (length seen0) a.last b.last text out p.loads gives.loads
-            (Answers-grow alone records after (length seen0) done text a.last p.loads gives.leads.grows
+        fact = Answers-append alone after.seen done items (length start.seen) a.last b.last text out p.loads gives.loads
+            (Answers-grow alone now.seen after.seen (length start.seen) done text a.last p.loads gives.leads.grows
             gives.leads.few a.fact) b.fact;
       };
     }
 
 -- two stretches of items that each lead from records to more records
-pub Gives-join : (alone : Bool) (records mid after : List RecordView) (published published1 published2 : ℕ)
-    (xs ys : List Item)
-    (out more : List ℕ)
-    → Gives alone records published xs out mid published1 → Gives alone mid published1 ys more after published2
-    → Gives alone records published (xs ++ ys) (out ++ more) after published2
-Gives-join alone records mid after published published1 published2 xs ys out more p q = record {
+pub Gives-join : (alone : Bool) (old mid new : Shelved) (xs ys : List Item) (out more : List ℕ)
+    → Gives alone old xs out mid → Gives alone mid ys more new → Gives alone old (xs ++ ys) (out ++ more) new
+Gives-join alone old mid new xs ys out more p q = record {
   loads = p.loads + q.loads;
   counted = omega (arith, p.counted, q.counted);
   leads = record {
-    grows = Grows-trans records mid after p.leads.grows q.leads.grows;
+    grows = Grows-trans old.seen mid.seen new.seen p.leads.grows q.leads.grows;
     few = q.leads.few;
     on = λ seen reached.
         let a = p.leads.on seen reached in
         let b = q.leads.on a.last a.reached in record {
           last = b.last;
           reached = b.reached;
-          fact = Answers-append alone after xs ys seen a.last b.last out more p.loads q.loads
-              (Answers-grow alone mid after seen xs out a.last p.loads q.leads.grows q.leads.few a.fact) b.fact;
+          fact = Answers-append alone new.seen xs ys seen a.last b.last out more p.loads q.loads
+              (Answers-grow alone mid.seen new.seen seen xs out a.last p.loads q.leads.grows q.leads.few a.fact) b.fact;
         };
   };
 }
 
 -- nothing was served yet
-pub serves_none : (alone : Bool) (records : List RecordView) (published : ℕ)
-    → IsServed alone records published records published [] []
-serves_none alone records published = record {
+pub serves_none : (alone : Bool) (start : Shelved) → IsServed alone start start [] []
+serves_none alone start = record {
   loads = 0;
-  grows = grows_none records;
+  grows = grows_none start.seen;
   counted = omega arith;
   answers = record {
-    last = length records;
+    last = length start.seen;
     reached = record { there = omega arith; last = λ only. refl };
     fact = (refl, refl, refl);
   };
 }
 
-module _ (alone : Bool) (old new : List RecordView) (published published2 : ℕ) (few : length new ≤ MOST_RECORDS)
-    (looks : Looks alone old new) (kept : published2 ≡ published) where
+-- a version is there that replies may have come to
+pub reached_last : (alone : Bool) (records : List RecordView) → IsReached alone records (length records)
+reached_last alone records = record { there = omega arith; last = λ only. refl }
+
+module _ (alone : Bool) (old new : Shelved) (look : IsLook alone old new) where
   -- the version of a look isn't older than what was told before
-  keeps : (seen : ℕ) → IsReached alone old seen → KeepsVersion alone new seen (length new)
+  keeps : (seen : ℕ) → IsReached alone old.seen seen → KeepsVersion alone new.seen seen (length new.seen)
   keeps seen reached = record {
-    later = omega (arith, reached.there, Grows-length old new looks.grows);
+    later = omega (arith, reached.there, Grows-length old.seen new.seen look.looks.grows);
     there = omega arith;
-    same = λ only. ap length (looks.still only) ∙ sym (reached.last only);
+    same = λ only. ap length (look.looks.still only) ∙ sym (reached.last only);
   }
 
-  -- the version of a look may be told
-  reached_all : IsReached alone new (length new)
-  reached_all = record { there = omega arith; last = λ only. refl }
-
   -- a look gives no item
-  pub Gives-none : Gives alone old published [] [] new published2
+  pub Gives-none : Gives alone old [] [] new
   Gives-none = record {
     loads = 0;
-    counted = omega (arith, kept);
+    counted = omega (arith, look.kept);
     leads = record {
-      grows = looks.grows;
-      few = few;
+      grows = look.looks.grows;
+      few = look.few;
       on = λ seen reached. record {
         last = seen;
         reached = record {
-          there = omega (arith, reached.there, Grows-length old new looks.grows);
-          last = λ only. reached.last only ∙ sym (ap length (looks.still only));
+          there = omega (arith, reached.there, Grows-length old.seen new.seen look.looks.grows);
+          last = λ only. reached.last only ∙ sym (ap length (look.looks.still only));
         };
         fact = (refl, refl, refl);
       };
@@ -253,24 +238,25 @@ module _ (alone : Bool) (old new : List RecordView) (published published2 : ℕ)
   }
 
   -- a look leads to its version
-  pub look_leads : (P : ℕ → ℕ → Type 0) → ((seen : ℕ) → KeepsVersion alone new seen (length new) → P seen (length new))
-      → LeadsOn alone old new P
+  pub look_leads : (P : ℕ → ℕ → Type 0)
+      → ((seen : ℕ) → KeepsVersion alone new.seen seen (length new.seen) → P seen (length new.seen))
+      → LeadsOn alone old.seen new.seen P
   look_leads P holds = record {
-    grows = looks.grows;
-    few = few;
+    grows = look.looks.grows;
+    few = look.few;
     on = λ seen reached. record {
-      last = length new;
-      reached = reached_all;
+      last = length new.seen;
+      reached = reached_last alone new.seen;
       fact = holds seen (keeps seen reached);
     };
   }
 
 -- an item whose steps lead from records to records
-pub Gives-one : (alone : Bool) (old new : List RecordView) (published published2 : ℕ) (item : Item) (reply : List ℕ)
-    (loads : ℕ)
-    → published2 ≡ published + loads → LeadsOn alone old new (λ seen next. Step alone new seen item reply next loads)
-    → Gives alone old published (item ∷ []) reply new published2
-Gives-one alone old new published published2 item reply loads counted leads = record {
+pub Gives-one : (alone : Bool) (old new : Shelved) (item : Item) (reply : List ℕ) (loads : ℕ)
+    → new.published ≡ old.published + loads
+    → LeadsOn alone old.seen new.seen (λ seen next. Step alone new.seen seen item reply next loads)
+    → Gives alone old (item ∷ []) reply new
+Gives-one alone old new item reply loads counted leads = record {
   loads = loads;
   counted = counted;
   leads = record {
@@ -294,12 +280,25 @@ Gives-one alone old new published published2 item reply loads counted leads = re
   };
 }
 
+-- a look that sees nothing new
+pub still_look : (alone : Bool) (now : Shelved) → length now.seen ≤ MOST_RECORDS → IsLook alone now now
+still_look alone now few = record {
+  looks = record { grows = grows_none now.seen; still = λ only. refl };
+  kept = refl;
+  few = few;
+}
+
+-- two looks, one after the other
+pub IsLook-trans : (alone : Bool) (a b c : Shelved) → IsLook alone a b → IsLook alone b c → IsLook alone a c
+IsLook-trans alone a b c p q = record {
+  looks = record {
+    grows = Grows-trans a.seen b.seen c.seen p.looks.grows q.looks.grows;
+    still = λ only. q.looks.still only ∙ p.looks.still only;
+  };
+  kept = q.kept ∙ p.kept;
+  few = q.few;
+}
+
 -- records on which nobody looked give no item
-pub Gives-still : (alone : Bool) (records : List RecordView) (published : ℕ) → length records ≤ MOST_RECORDS
-    → Gives alone records published [] [] records published
-Gives-still alone records published few =
-    Gives-none alone records records published published few (record {
-      grows = grows_none records;
-      still = λ only.
-          refl;
-    }) refl
+pub Gives-still : (alone : Bool) (now : Shelved) → length now.seen ≤ MOST_RECORDS → Gives alone now [] [] now
+Gives-still alone now few = Gives-none alone now now (still_look alone now few)

@@ -5,12 +5,10 @@ use Rattle.std.proofs.lemmas.List.{append_cancel_right}
 use Rattle.std.specs.Io.KnownBytes.{Consumes}
 use Rattle.std.specs.declared.option.Option.{Option}
 use Rattle.line_reader.specs.declared.reader.TheConstants.{MOST_BYTES}
-use Rattle.session.specs.Sessions.{IsComplete}
-use Rattle.session.specs.Turns.{EndsAs}
-use Rattle.session.specs.declared.serve.SessionEnd.{SessionEnd}
-use Rattle.session.specs.declared.serve.SessionEnd.TheVariants.{Done, ReadFault, WriteFault, TooLong}
+use Rattle.session.specs.Sessions.{EndsAs, IsComplete, Moment}
+use Rattle.session.specs.declared.session.SessionEnd.{SessionEnd}
+use Rattle.session.specs.declared.session.SessionEnd.TheVariants.{Done, ReadFault, WriteFault, TooLong}
 use Rattle.text_forms.specs.Items.{Item, Ask, Load, Bye, NoBye, items_of}
-use Rattle.tree_versions.specs.Records.{RecordView}
 
 -- what was taken from a source that tells its bytes
 taken_is : (told told2 : Option (List ℕ)) (taken rest bytes : List ℕ) → told ≡ Some (taken ++ rest)
@@ -29,31 +27,35 @@ bye_behind (Ask line ∷ front) quiet = bye_behind front quiet
 bye_behind (Load text whole ∷ front) quiet = bye_behind front quiet
 bye_behind (Bye ∷ front) quiet = quiet
 
+-- What was sent: MOST_BYTES without a BYE, all of which were taken without an end.
+pub record IsLong (start now : Moment) (taken rest : List ℕ) : Type 0 where
+  pub before : start.wire.left ≡ Some (taken ++ rest)
+  pub after : now.wire.left ≡ Some rest
+  pub many : length taken ≡ MOST_BYTES
+  pub unmet : now.wire.ended ≡ false
+  pub quiet : NoBye (items_of false taken)
+
 -- MOST_BYTES without a BYE, and no end, are too many
-pub always_long : (end : SessionEnd) (told told2 written0 written : Option (List ℕ)) (ended : Bool)
-    (alone : Bool) (seen0 : List RecordView) (published0 : ℕ) (records : List RecordView) (published : ℕ)
-    (taken rest : List ℕ)
-    → EndsAs end told written0 told2 ended written alone seen0 published0 records published
-    → told ≡ Some (taken ++ rest) → told2 ≡ Some rest
-    → length taken ≡ MOST_BYTES → ended ≡ false → NoBye (items_of false taken) → (end ≡ WriteFault → ⊥) → end ≡ TooLong
-always_long Done told told2 written0 written ended alone seen0 published0 records published taken rest e before after
-    many unmet quiet sound =
-    absurd (complete e.why)
+pub always_long : (end : SessionEnd) (alone : Bool) (start now : Moment) (taken rest : List ℕ)
+    → EndsAs end alone start now → IsLong start now taken rest → (end ≡ WriteFault → ⊥) → end ≡ TooLong
+always_long Done alone start now taken rest e long sound = absurd (complete e.why)
   where
     same : e.bytes ≡ taken
-    same = taken_is told told2 taken rest e.bytes before after e.gone
+    same = taken_is start.wire.left now.wire.left taken rest e.bytes long.before long.after e.gone
 
-    complete : IsComplete ended told2 e.bytes (items_of ended e.bytes) → ⊥
+    complete : IsComplete now.wire e.bytes (items_of now.wire.ended e.bytes) → ⊥
     complete (inl (front, is)) =
         let items : items_of false taken ≡ front ++ Bye ∷ [] =
-        ap (items_of false) (sym same) ∙ ap (λ (b : Bool). items_of b e.bytes) (sym unmet) ∙ is in
-        bye_behind front (subst NoBye items quiet)
-    complete (inr over) = let e : true ≡ false = sym over.0 ∙ unmet in cc
-always_long ReadFault told told2 written0 written ended alone seen0 published0 records published taken rest e before
-    after many unmet quiet sound =
-    absurd (omega (arith, e.why.0, ap length (taken_is told told2 taken rest e.bytes before after e.gone), many))
-always_long WriteFault told told2 written0 written ended alone seen0 published0 records published taken rest e before
-    after many unmet quiet sound =
-    absurd (sound refl)
-always_long TooLong told told2 written0 written ended alone seen0 published0 records published taken rest e before
-    after many unmet quiet sound = refl
+        ap (items_of false) (sym same) ∙ ap (λ (b : Bool). items_of b e.bytes) (sym long.unmet) ∙ is in
+        bye_behind front (subst NoBye items long.quiet)
+    complete (inr over) = let e : true ≡ false = sym over.0 ∙ long.unmet in cc
+always_long ReadFault alone start now taken rest e long sound =
+    absurd (omega (
+      arith,
+      e.why.0,
+      ap length (taken_is start.wire.left now.wire.left taken rest e.bytes long.before
+          long.after e.gone),
+      long.many,
+    ))
+always_long WriteFault alone start now taken rest e long sound = absurd (sound refl)
+always_long TooLong alone start now taken rest e long sound = refl

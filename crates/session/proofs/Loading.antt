@@ -1,6 +1,7 @@
 -- What the end of a text leads to, and the texts that a session may hold.
 use Rattle.std.proofs.Common.{◌≡◌, ℕ, ◌+◌, ◌≤◌, List, [], ◌∷◌, ◌++◌, Bool, true, false, length, None, Some}
 use Rattle.std.proofs.Common.{Result, Ok, Err, refl, sym, ap, ◌∙◌, arith, subst, inl, inr, ◌⊎◌, length-append}
+use Rattle.std.proofs.lemmas.List.{append-nil}
 use Rattle.std.proofs.lemmas.List.Sums.{fold_push}
 use Rattle.std.specs.declared.option.Option.{Option}
 use Rattle.network_text.specs.Readings.{Reading, IsWant, Closes, TakesLine}
@@ -11,72 +12,90 @@ use Rattle.network_text.specs.declared.fault.TextFault.{TextFault}
 use Rattle.network_text.specs.declared.fault.TextKind.TheVariants.{Memory}
 use Rattle.query_lang.specs.Replies.{loaded_text, refused_text}
 use Rattle.session.specs.Answers.{IsTextRefusal, LoadStep}
-use Rattle.session.specs.Modes.{Closing, Gives, Loads, gives, next_text}
-use Rattle.session.specs.Taking.{HasRead, HasOpen, IsTaken}
+use Rattle.session.specs.Modes.{Gives, Loads, gives, next_text}
+use Rattle.session.specs.Points.{IsIdle, Work}
+use Rattle.session.specs.Reporting.{Carried, IsHeld}
+use Rattle.session.specs.Shelved.{IsLook, Shelved}
+use Rattle.session.specs.Taking.{HasRead, HasOpen, IsTaken, Owing}
+use Rattle.session.specs.declared.desk.Asked.{Asked}
 use Rattle.session.specs.declared.intake.Intake.{Intake}
 use Rattle.session.specs.declared.intake.Intake.TheVariants.{Between, Text, Lost}
 use Rattle.session.proofs.Answering.{look_leads, Gives-one, Gives-still}
-use Rattle.text_forms.specs.Items.{Item, Load}
+use Rattle.text_forms.specs.Items.{Item, Load, items_from}
 use Rattle.text_forms.specs.Words.{is_end}
 use Rattle.tree_versions.specs.Records.{RecordView}
-use Rattle.tree_versions.specs.Shelves.{Looks, IsFull, IsPublishedAt}
+use Rattle.tree_versions.specs.Shelves.{IsPublishedAt}
 use Rattle.tree_versions.specs.declared.shelf.TheConstants.{MOST_RECORDS}
 
-module _ (alone : Bool) (old new : List RecordView) (published published2 : ℕ) (reply : List ℕ)
-    (few : length new ≤ MOST_RECORDS)
-    (looks : Looks alone old new) (kept : published2 ≡ published) where
+-- where no line is left no record is needed any more
+pub whole_held : (records : List RecordView) (work : Work Asked Carried) → work.at.left ≡ 0 → IsHeld records work
+whole_held records work none some = absurd (omega (arith, none))
+
+-- a run behind which no line is left is all that is owed
+pub run_owing : {alone : Bool} {old new : Shelved} {items : List Item} (work : Work Asked Carried)
+    → work.at.left ≡ 0 → Gives alone old items work.run new → Owing alone old new items work
+run_owing {alone} {old} {new} {items} work none gives = record {
+  grows = gives.leads.grows;
+  gives = λ text owed.
+      let last : owed.tail ≡ [] = rw none at owed.is in
+      let same : text ≡ work.run = owed.joins ∙ ap (λ tail. work.run ++ tail) last ∙ append-nil work.run in
+      subst (λ (t : List ℕ). Gives alone old items t new) (sym same) gives;
+  held = whole_held new.seen work none;
+}
+
+-- where no reply is in work nothing is owed
+pub idle_owing : {alone : Bool} {old new : Shelved} {items : List Item} {work : Work Asked Carried} → IsIdle work
+    → Gives alone old items [] new → Owing alone old new items work
+idle_owing {alone} {old} {new} {items} {work} idle gives =
+    run_owing work idle.left (subst (λ (t : List ℕ). Gives alone old items t new) (sym idle.run) gives)
+
+module _ {alone : Bool} {old new : Shelved} (look : IsLook alone old new) {reply : List ℕ} where
   -- the refusal of a faulty text
-  pub fault_loads : (fault : TextFault) → IsTextRefusal (length new) fault reply
-      → Loads alone old published (Err fault) reply new published2
+  pub fault_loads : (fault : TextFault) → IsTextRefusal (length new.seen) fault reply
+      → Loads alone old (Err fault) reply new
   fault_loads fault told = record {
     loads = 0;
-    counted = omega (arith, kept);
-    leads = look_leads alone old new published published2 few looks kept
-        (λ seen next. LoadStep alone new seen (Err fault) reply next 0)
+    counted = omega (arith, look.kept);
+    leads = look_leads alone old new look (λ seen next. LoadStep alone new.seen seen (Err fault) reply next 0)
         (λ seen keeps. record { keeps = keeps; told = told; counted = refl });
   }
 
   -- want of memory may be told of each text
-  pub want_loads : (verdict : Result SheetView TextFault) → reply ≡ refused_text (length new) 90 None
-      → Loads alone old published verdict reply new published2
+  pub want_loads : (verdict : Result SheetView TextFault) → reply ≡ refused_text (length new.seen) 90 None
+      → Loads alone old verdict reply new
   want_loads (Err fault) told = fault_loads fault (inr told)
   want_loads (Ok sheet) told = record {
     loads = 0;
-    counted = omega (arith, kept);
-    leads = look_leads alone old new published published2 few looks kept
-        (λ seen next. LoadStep alone new seen (Ok sheet) reply next 0)
+    counted = omega (arith, look.kept);
+    leads = look_leads alone old new look (λ seen next. LoadStep alone new.seen seen (Ok sheet) reply next 0)
         (λ seen keeps. inr (inr (record { keeps = keeps; told = told; counted = refl })));
   }
 
--- no record can be added to MOST_RECORDS
-pub full_loads : (alone : Bool) (old new : List RecordView) (published published2 : ℕ) (reply : List ℕ)
-    (sheet : SheetView)
-    → IsFull alone old new → published2 ≡ published → reply ≡ refused_text MOST_RECORDS 20 None
-    → Loads alone old published (Ok sheet) reply new published2
-full_loads alone old new published published2 reply sheet full kept told = record {
-  loads = 0;
-  counted = omega (arith, kept);
-  leads = look_leads alone old new published published2 (omega (arith, full.full)) full.looks kept
-      (λ seen next. LoadStep alone new seen (Ok sheet) reply next 0)
-      (λ seen keeps. inr (inl (record {
-        full = full.full;
-        all = full.full;
-        later = keeps.later;
-        text = told;
-        same = λ only. sym (keeps.same only) ∙ full.full;
-        counted = refl;
-      })));
-}
+  -- no record can be added to MOST_RECORDS
+  pub full_loads : (sheet : SheetView) → length new.seen ≡ MOST_RECORDS → reply ≡ refused_text MOST_RECORDS 20 None
+      → Loads alone old (Ok sheet) reply new
+  full_loads sheet full told = record {
+    loads = 0;
+    counted = omega (arith, look.kept);
+    leads = look_leads alone old new look (λ seen next. LoadStep alone new.seen seen (Ok sheet) reply next 0)
+        (λ seen keeps. inr (inl (record {
+          full = full;
+          all = full;
+          later = keeps.later;
+          text = told;
+          same = λ only. sym (keeps.same only) ∙ full;
+          counted = refl;
+        })));
+  }
 
 -- a record was published, and the reply has its version
-pub stands_loads : (alone : Bool) (old new : List RecordView) (published published2 : ℕ) (reply : List ℕ)
-    (added : RecordView)
-    (version : ℕ) → length new ≤ MOST_RECORDS → IsPublishedAt alone old new added version → published2 ≡ published + 1
-    → reply ≡ loaded_text version added.sheet.net
-    → Loads alone old published (Ok added.sheet) reply new published2
-stands_loads alone old new published published2 reply added version few stands counted told = record {
+pub stands_loads : {alone : Bool} {old new : Shelved} {reply : List ℕ} (added : RecordView) (version : ℕ)
+    → length new.seen ≤ MOST_RECORDS
+    → IsPublishedAt alone old.seen new.seen added version × (new.published ≡ old.published + 1)
+    → reply ≡ loaded_text version added.sheet.net → Loads alone old (Ok added.sheet) reply new
+stands_loads {old = old} added version few published told = let stands = published.0 in record {
   loads = 1;
-  counted = counted;
+  counted = published.1;
   leads = record {
     grows = stands.grows;
     few = few;
@@ -90,7 +109,7 @@ stands_loads alone old new published published2 reply added version few stands c
         shows = refl;
         there = omega (arith, stands.last);
         text = told;
-        same = λ only. sym stands.last ∙ ap length (stands.next only) ∙ length-append old (added ∷ [])
+        same = λ only. sym stands.last ∙ ap length (stands.next only) ∙ length-append old.seen (added ∷ [])
             ∙ ap (λ (n : ℕ). n + 1) (sym (reached.last only));
         counted = refl;
       });
@@ -99,12 +118,10 @@ stands_loads alone old new published published2 reply added version few stands c
 }
 
 -- a text that was loaded is an item that was answered
-pub Loads-gives : (alone : Bool) (old new : List RecordView) (published published2 : ℕ) (text : List (List ℕ))
-    (whole : Bool)
-    (reply : List ℕ) → Loads alone old published (verdict_of text whole) reply new published2
-    → Gives alone old published (Load text whole ∷ []) reply new published2
-Loads-gives alone old new published published2 text whole reply p =
-    Gives-one alone old new published published2 (Load text whole) reply p.loads p.counted p.leads
+pub Loads-gives : {alone : Bool} {old new : Shelved} (text : List (List ℕ)) (whole : Bool) {reply : List ℕ}
+    → Loads alone old (verdict_of text whole) reply new → Gives alone old (Load text whole ∷ []) reply new
+Loads-gives {alone} {old} {new} text whole {reply} p =
+    Gives-one alone old new (Load text whole) reply p.loads p.counted p.leads
 
 -- Want of memory is the verdict.
 record Wanted (verdict : Result SheetView TextFault) : Type 0 where
@@ -131,57 +148,54 @@ closes_err (Err other) fault closes = inl (sym closes)
 closes_err (Ok sheet) fault (inl is) = absurd (cc)
 closes_err (Ok sheet) fault (inr want) = inr want
 
-module _ (alone : Bool) (old new : List RecordView) (published published2 : ℕ) (reply : List ℕ) (progress : Progress)
-    (ended : Bool) (text : List (List ℕ)) (read : HasRead progress text) where
+module _ {alone : Bool} {old new : Shelved} {reply : List ℕ} (reader : Reading) (text : List (List ℕ))
+    (read : HasRead reader.progress text) where
   -- the sheet of a reader is that of the text
-  pub closed_ok : (sheet : SheetView) → Closes (verdict_at ended progress) (Ok sheet)
-      → Loads alone old published (Ok sheet) reply new published2 → Loads alone old published (verdict_of text ended)
-      reply new published2
+  pub closed_ok : (sheet : SheetView) → Closes (verdict_at reader.ended reader.progress) (Ok sheet)
+      → Loads alone old (Ok sheet) reply new → Loads alone old (verdict_of text reader.ended) reply new
   closed_ok sheet closes loads =
-      subst (λ (v : Result SheetView TextFault). Loads alone old published v reply new published2) (sym (of read)) loads
+      subst (λ (v : Result SheetView TextFault). Loads alone old v reply new) (sym (of read)) loads
     where
-      of : HasRead progress text → verdict_of text ended ≡ Ok sheet
-      of (inl is) = ap (verdict_at ended) (sym is) ∙ closes_ok (verdict_at ended progress) sheet closes
+      of : HasRead reader.progress text → verdict_of text reader.ended ≡ Ok sheet
+      of (inl is) =
+          ap (verdict_at reader.ended) (sym is) ∙ closes_ok (verdict_at reader.ended reader.progress) sheet closes
       of (inr want) =
-          let w = wanted (progress.lines + 1) ended progress.draft want in
+          let w = wanted (reader.progress.lines + 1) reader.ended reader.progress.draft want in
           absurd (let e : Err w.fault ≡ Ok sheet =
-          sym w.is ∙ closes_ok (verdict_at ended progress) sheet closes in cc)
+          sym w.is ∙ closes_ok (verdict_at reader.ended reader.progress) sheet closes in cc)
 
   -- the fault of a reader is that of the text, or want of memory
-  pub closed_err : length new ≤ MOST_RECORDS → Looks alone old new → published2 ≡ published → (fault : TextFault)
-      → Closes (verdict_at ended progress) (Err fault) → IsTextRefusal (length new) fault reply
-      → (fault.kind ≡ Memory → reply ≡ refused_text (length new) 90 None)
-      → Loads alone old published (verdict_of text ended) reply new published2
-  closed_err few looks kept fault closes told lost =
-      of read (closes_err (verdict_at ended progress) fault closes)
+  pub closed_err : IsLook alone old new → (fault : TextFault)
+      → Closes (verdict_at reader.ended reader.progress) (Err fault) → IsTextRefusal (length new.seen) fault reply
+      → (fault.kind ≡ Memory → reply ≡ refused_text (length new.seen) 90 None)
+      → Loads alone old (verdict_of text reader.ended) reply new
+  closed_err look fault closes told lost = of read (closes_err (verdict_at reader.ended reader.progress) fault closes)
     where
-      by_want : fault.kind ≡ Memory → Loads alone old published (verdict_of text ended) reply new published2
-      by_want want = want_loads alone old new published published2 reply few looks kept (verdict_of text ended)
-          (lost want)
+      by_want : fault.kind ≡ Memory → Loads alone old (verdict_of text reader.ended) reply new
+      by_want want = want_loads look (verdict_of text reader.ended) (lost want)
 
-      of : HasRead progress text → (verdict_at ended progress ≡ Err fault) ⊎ (fault.kind ≡ Memory)
-          → Loads alone old published (verdict_of text ended) reply new published2
+      of : HasRead reader.progress text → (verdict_at reader.ended reader.progress ≡ Err fault) ⊎ (fault.kind ≡ Memory)
+          → Loads alone old (verdict_of text reader.ended) reply new
       of (inl is) (inl same) =
-          let verdict : verdict_of text ended ≡ Err fault = ap (verdict_at ended) (sym is) ∙ same in
-          subst (λ (v : Result SheetView TextFault). Loads alone old published v reply new published2) (sym verdict)
-          (fault_loads alone old new published published2 reply few looks kept fault told)
+          let verdict : verdict_of text reader.ended ≡ Err fault = ap (verdict_at reader.ended) (sym is) ∙ same in
+          subst (λ (v : Result SheetView TextFault). Loads alone old v reply new) (sym verdict)
+          (fault_loads look fault told)
       of (inl is) (inr want) = by_want want
       of (inr lack) (inr want) = by_want want
       of (inr lack) (inl same) =
-          let w = wanted (progress.lines + 1) ended progress.draft lack in
+          let w = wanted (reader.progress.lines + 1) reader.ended reader.progress.draft lack in
           let e = sym w.is ∙ same in
           let f : w.fault ≡ fault = cc in
           by_want (subst (λ (g : TextFault). g.kind ≡ Memory) f w.memory)
 
 -- a line that ends a text was taken
-pub ended_taken : (alone : Bool) (old new : List RecordView) (published published2 : ℕ) (text : List (List ℕ))
-    (line reply : List ℕ)
-    → is_end line ≡ true → Loads alone old published (verdict_of text true) reply new published2
-    → IsTaken alone old published new published2 (Some text) Between line reply
-ended_taken alone old new published published2 text line reply end loads = record {
-  quiet = λ none passed load. absurd (cc);
-  given = subst (λ (items : List Item). Gives alone old published items reply new published2) (sym gives_is)
-      (Loads-gives alone old new published published2 text true reply loads);
+pub ended_taken : {alone : Bool} {old new : Shelved} (text : List (List ℕ)) (line : List ℕ) {work : Work Asked Carried}
+    → is_end line ≡ true → work.at.left ≡ 0 → Loads alone old (verdict_of text true) work.run new
+    → IsTaken alone old new (Some text) Between line work
+ended_taken {alone} {old} {new} text line {work} end none loads = record {
+  quiet = λ between passed load. absurd (cc);
+  owing = subst (λ (items : List Item). Owing alone old new items work) (sym gives_is)
+      (run_owing work none (Loads-gives text true loads));
   left_open = subst (λ (m : Option (List (List ℕ))). HasOpen Between m) (sym next_is) tt;
 }
   where
@@ -192,13 +206,13 @@ ended_taken alone old new published published2 text line reply end loads = recor
     next_is = rw end refl
 
 -- a further line of a text was taken
-pub more_taken : (alone : Bool) (records : List RecordView) (published : ℕ) (text : List (List ℕ)) (intake : Intake)
-    (line : List ℕ) → length records ≤ MOST_RECORDS → is_end line ≡ false → HasOpen intake (Some (text ++ line ∷ []))
-    → IsTaken alone records published records published (Some text) intake line []
-more_taken alone records published text intake line few more left_open = record {
-  quiet = λ none passed load. absurd (cc);
-  given = subst (λ (items : List Item). Gives alone records published items [] records published) (sym gives_is)
-      (Gives-still alone records published few);
+pub more_taken : {alone : Bool} {now : Shelved} (text : List (List ℕ)) (intake : Intake) (line : List ℕ)
+    {work : Work Asked Carried} → length now.seen ≤ MOST_RECORDS → IsIdle work → is_end line ≡ false
+    → HasOpen intake (Some (text ++ line ∷ [])) → IsTaken alone now now (Some text) intake line work
+more_taken {alone} {now} text intake line {work} few idle more left_open = record {
+  quiet = λ between passed load. absurd (cc);
+  owing = subst (λ (items : List Item). Owing alone now now items work) (sym gives_is)
+      (idle_owing idle (Gives-still alone now few));
   left_open = subst (λ (m : Option (List (List ℕ))). HasOpen intake m) (sym next_is) left_open;
 }
   where
@@ -223,12 +237,18 @@ read_more old new text line (inl is) (inl step) =
 read_more old new text line (inr want) (inl step) =
     inr (subst (λ (p : Progress). IsWant p.draft) (sym step) (want_stays (old.lines + 1) old.draft line want))
 
--- where nothing is open nothing is owed
-pub closing_between : (alone : Bool) (records : List RecordView) (published : ℕ) → length records ≤ MOST_RECORDS
-    → (open_text : Option (List (List ℕ))) → HasOpen Between open_text
-    → Closing alone records published open_text [] records published
-closing_between alone records published few None h = Gives-still alone records published few
-closing_between alone records published few (Some text) h = absurd h
+-- where nothing is open the end of the input makes no item whole
+pub still_owing : {alone : Bool} {now : Shelved} {work : Work Asked Carried} → length now.seen ≤ MOST_RECORDS
+    → IsIdle work → (open_text : Option (List (List ℕ))) → HasOpen Between open_text
+    → Owing alone now now (items_from true open_text []) work
+still_owing {alone} {now} few idle None h = idle_owing idle (Gives-still alone now few)
+still_owing few idle (Some text) h = absurd h
+
+-- a text that the end of the input cuts off was answered
+pub cut_owing : {alone : Bool} {old new : Shelved} (text : List (List ℕ)) {work : Work Asked Carried}
+    → work.at.left ≡ 0 → Loads alone old (verdict_of text false) work.run new
+    → Owing alone old new (items_from true (Some text) []) work
+cut_owing text {work} none loads = run_owing work none (Loads-gives text false loads)
 
 -- a text that is read is open
 pub text_open : (P : Option (List (List ℕ)) → Type 0) (reader : Reading)

@@ -1,5 +1,13 @@
 pub mod Answers
+pub mod Goings
+pub mod Laws
 pub mod Modes
+pub mod Points
+pub mod Reporting
 pub mod Sessions
+pub mod Shelved
+pub mod Steps
 pub mod Taking
+pub mod Tasks
 pub mod Turns
+pub mod Writing

@@ -5,7 +5,8 @@ use Rattle.std.specs.declared.option.Option.{Option}
 use Rattle.network_text.specs.Sheets.{SheetView}
 use Rattle.network_text.specs.declared.fault.TextFault.{TextFault}
 use Rattle.session.specs.Answers.{Answers, LoadStep}
-use Rattle.text_forms.specs.Items.{Item, Ask, Load, NoBye, items_from, items_on, items_of}
+use Rattle.session.specs.Shelved.{Shelved}
+use Rattle.text_forms.specs.Items.{Item, Ask, Load}
 use Rattle.text_forms.specs.Words.{is_passed, is_load, is_end, is_bye}
 use Rattle.tree_versions.specs.Records.{RecordView, Grows}
 use Rattle.tree_versions.specs.declared.shelf.TheConstants.{MOST_RECORDS}
@@ -39,44 +40,26 @@ pub record LeadsOn (alone : Bool) (old new : List RecordView) (P : ℕ → ℕ �
 
 -- The items are answered by the text, which leads from these records to those, and the number of records that were
 -- published grew by the accepted LOADs.
-pub record Gives (alone : Bool) (old : List RecordView) (published : ℕ) (items : List Item) (text : List ℕ)
-    (new : List RecordView) (published2 : ℕ) : Type 0 where
+pub record Gives (alone : Bool) (old : Shelved) (items : List Item) (text : List ℕ) (new : Shelved) : Type 0 where
   pub loads : ℕ
-  pub counted : published2 ≡ published + loads
-  pub leads : LeadsOn alone old new (λ seen next. Answers alone new seen items text next loads)
+  pub counted : new.published ≡ old.published + loads
+  pub leads : LeadsOn alone old.seen new.seen (λ seen next. Answers alone new.seen seen items text next loads)
 
 -- A network with this verdict was loaded, and this is the reply.
-pub record Loads (alone : Bool) (old : List RecordView) (published : ℕ) (verdict : Result SheetView TextFault)
-    (reply : List ℕ) (new : List RecordView) (published2 : ℕ) : Type 0 where
+pub record Loads (alone : Bool) (old : Shelved) (verdict : Result SheetView TextFault) (reply : List ℕ) (new : Shelved) :
+    Type 0 where
   pub loads : ℕ
-  pub counted : published2 ≡ published + loads
-  pub leads : LeadsOn alone old new (λ seen next. LoadStep alone new seen verdict reply next loads)
+  pub counted : new.published ≡ old.published + loads
+  pub leads : LeadsOn alone old.seen new.seen (λ seen next. LoadStep alone new.seen seen verdict reply next loads)
 
 -- The records begin with those that were seen at the start, the text answers the items from their last version on, and
 -- the number of records that were published grew by the accepted LOADs.
-pub record IsServed (alone : Bool) (seen0 : List RecordView) (published0 : ℕ) (records : List RecordView)
-    (published : ℕ)
-    (items : List Item)
-    (text : List ℕ) : Type 0 where
+pub record IsServed (alone : Bool) (start now : Shelved) (items : List Item) (text : List ℕ) : Type 0 where
   pub loads : ℕ
-  pub grows : Grows seen0 records
-  pub counted : published ≡ published0 + loads
-  pub answers : AtSomeVersion alone records (λ last. Answers alone records (length seen0) items text last loads)
-
--- The bytes were answered by the text, up to a text that is open. Whatever bytes come, the whole items are those
--- that are done and then those from here on.
-pub record Serves (alone : Bool) (seen0 : List RecordView) (published0 : ℕ) (bytes text : List ℕ)
-    (records : List RecordView) (published : ℕ)
-    (open_text : Option (List (List ℕ))) : Type 0 where
-  pub done : List Item
-  pub quiet : NoBye done
-  pub items : (ended : Bool) (more : List ℕ) → items_of ended (bytes ++ more) ≡ done ++ items_on ended open_text more
-  pub answered : IsServed alone seen0 published0 records published done text
-
--- what is owed where the input ends: the refusal of a text that is open
-abbrev pub Closing : Bool → List RecordView → ℕ → Option (List (List ℕ)) → List ℕ → List RecordView → ℕ → Type 0
-Closing alone old published open_text owed new published2 = Gives alone old published (items_from true open_text [])
-    owed new published2
+  pub grows : Grows start.seen now.seen
+  pub counted : now.published ≡ start.published + loads
+  pub answers : AtSomeVersion alone now.seen
+      (λ last. Answers alone now.seen (length start.seen) items text last loads)
 
 -- a line that is no BYE between items
 abbrev pub IsQuiet : Option (List (List ℕ)) → List ℕ → Type 0

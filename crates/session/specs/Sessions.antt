@@ -1,58 +1,61 @@
--- A session so far, and one that has ended.
-use Rattle.std.specs.Prelude.{◌≡◌, ℕ, ◌+◌, ◌<◌, ◌≤◌, ◌⊎◌, take, List, ◌∷◌, [], ◌++◌, length, Bool, false}
-use Rattle.std.specs.Io.KnownBytes.{Consumes, Appends}
+-- How a session ends.
+use Rattle.std.specs.Prelude.{◌≡◌, ℕ, ◌+◌, ◌<◌, ◌≤◌, ◌⊎◌, take, List, ◌∷◌, [], ◌++◌, length, Bool, IsTrue, false}
+use Rattle.std.specs.Io.KnownBytes.{Appends, Consumes, IsAtEnd}
 use Rattle.std.specs.declared.option.Option.{Option}
-use Rattle.line_reader.specs.Buffered.{Buffered, ahead, IsOpen}
-use Rattle.line_reader.specs.Ends.{IsOver}
 use Rattle.line_reader.specs.declared.reader.TheConstants.{MOST_BYTES}
 use Rattle.session.specs.Answers.{Answers}
-use Rattle.session.specs.Modes.{IsReached, IsServed, Serves}
+use Rattle.session.specs.Modes.{IsReached, IsServed}
+use Rattle.session.specs.Shelved.{Shelved}
+use Rattle.session.specs.declared.session.SessionEnd.{SessionEnd}
+use Rattle.session.specs.declared.session.SessionEnd.TheVariants.{Done, ReadFault, WriteFault, TooLong}
 use Rattle.text_forms.specs.Items.{Item, Bye, NoBye, items_of}
-use Rattle.tree_versions.specs.Records.{RecordView, Grows}
+use Rattle.tree_versions.specs.Records.{Grows}
+use Rattle.wires.specs.Lazy.{Wire}
 
--- What was taken and written since the start of a session, and what lies ahead now. `left0` and `written0` are
--- what the source had left and the sink had written then, `seen0` are the records that were seen and `own0` is how many
--- were published.
-pub record SoFar (alone : Bool) (seen0 : List RecordView) (published0 : ℕ) (left0 written0 : Option (List ℕ))
-    (buffer : Buffered)
-    (left : Option (List ℕ)) (ended : Bool) (written : Option (List ℕ)) (records : List RecordView) (published : ℕ)
-    (open_text : Option (List (List ℕ))) : Type 0 where
-  pub bytes : List ℕ
-  pub text : List ℕ
-  pub serves : Serves alone seen0 published0 bytes text records published open_text
-  pub gone : Consumes left0 (ahead buffer left) bytes
-  pub count : buffer.taken ≡ length bytes + length buffer.bytes
-  pub unmet : IsOpen buffer ended
-  pub wrote : Appends written0 written text
+-- What the shelf and the peer of a session show at a moment.
+pub record Moment : Type 0 where
+  pub shelf : Shelved
+  pub wire : Wire
+
+-- that moment
+abbrev pub moment : Shelved → Wire → Moment
+moment shelf wire = record { shelf = shelf; wire = wire }
+
+-- that of a peer that has this left, and to which this was written
+abbrev pub moment_at : Shelved → Option (List ℕ) → Bool → Option (List ℕ) → Moment
+moment_at shelf left ended written = moment shelf (record { left = left; ended = ended; written = written })
 
 -- The text that was written answers the whole items of the bytes that were taken, as `Serving` says, and P holds of
 -- these bytes and items. No more than MOST_BYTES were taken.
-pub record Ends (P : List ℕ → List Item → Type 0) (left0 written0 left : Option (List ℕ)) (ended : Bool)
-    (written : Option (List ℕ)) (Serving : List Item → List ℕ → Type 0) : Type 0 where
-  pub bytes : List ℕ
-  pub text : List ℕ
-  pub served : Serving (items_of ended bytes) text
-  pub gone : Consumes left0 left bytes
-  pub wrote : Appends written0 written text
-  pub why : P bytes (items_of ended bytes)
-  pub most : length bytes ≤ MOST_BYTES
+pub record Ends (P : List ℕ → List Item → Type 0) (start now : Wire) (Serving : List Item → List ℕ → Type 0) : Type 0
+  where
+    pub bytes : List ℕ
+    pub text : List ℕ
+    pub served : Serving (items_of now.ended bytes) text
+    pub gone : Consumes start.left now.left bytes
+    pub wrote : Appends start.written now.written text
+    pub why : P bytes (items_of now.ended bytes)
+    pub most : length bytes ≤ MOST_BYTES
+
+-- a read met the end, and no told byte is left
+abbrev pub IsOver : Bool → Option (List ℕ) → Type 0
+IsOver ended left = IsTrue ended × IsAtEnd left
 
 -- the last item is a BYE, or the end of the input was met and no byte that the source tells of is left
-abbrev pub IsComplete : Bool → Option (List ℕ) → List ℕ → List Item → Type 0
-IsComplete ended left bytes items = ((front : List Item) × (items ≡ front ++ Bye ∷ [])) ⊎ IsOver ended left
+abbrev pub IsComplete : Wire → List ℕ → List Item → Type 0
+IsComplete now bytes items = ((front : List Item) × (items ≡ front ++ Bye ∷ [])) ⊎ IsOver now.ended now.left
 
 -- MOST_BYTES were taken, the end wasn't met, and no BYE is among the items
-abbrev pub IsTooLong : Bool → List ℕ → List Item → Type 0
-IsTooLong ended bytes items = (length bytes ≡ MOST_BYTES) × (ended ≡ false) × NoBye items
+abbrev pub IsTooLong : Wire → List ℕ → List Item → Type 0
+IsTooLong now bytes items = (length bytes ≡ MOST_BYTES) × (now.ended ≡ false) × NoBye items
 
 -- fewer bytes were taken, the end wasn't met, and no BYE is among the items
-abbrev pub IsCutShort : Bool → List ℕ → List Item → Type 0
-IsCutShort ended bytes items = (length bytes < MOST_BYTES) × (ended ≡ false) × NoBye items
+abbrev pub IsCutShort : Wire → List ℕ → List Item → Type 0
+IsCutShort now bytes items = (length bytes < MOST_BYTES) × (now.ended ≡ false) × NoBye items
 
 -- The text that was written answers a front of the whole items of the bytes that were taken, but for a part of the
 -- reply to the last of them. No more than MOST_BYTES were taken.
-pub record Breaks (left0 written0 left : Option (List ℕ)) (ended : Bool) (written : Option (List ℕ)) (alone : Bool)
-    (seen0 : List RecordView) (published0 : ℕ) (records : List RecordView) (published : ℕ) : Type 0 where
+pub record Breaks (alone : Bool) (start now : Moment) : Type 0 where
   pub bytes : List ℕ
   pub earlier : List Item
   pub last : List Item
@@ -64,34 +67,24 @@ pub record Breaks (left0 written0 left : Option (List ℕ)) (ended : Bool) (writ
   pub loads : ℕ
   pub loaded : ℕ
   pub count : ℕ
-  pub whole : items_of ended bytes ≡ (earlier ++ last) ++ behind
+  pub whole : items_of now.wire.ended bytes ≡ (earlier ++ last) ++ behind
   pub one : length last ≤ 1
-  pub grows : Grows seen0 records
-  pub before : Answers alone records (length seen0) earlier text seen loads
-  pub answers : Answers alone records seen last reply final loaded
-  pub reached : IsReached alone records final
-  pub counted : published ≡ published0 + (loads + loaded)
-  pub gone : Consumes left0 left bytes
-  pub wrote : Appends written0 written (text ++ take count reply)
+  pub grows : Grows start.shelf.seen now.shelf.seen
+  pub before : Answers alone now.shelf.seen (length start.shelf.seen) earlier text seen loads
+  pub answers : Answers alone now.shelf.seen seen last reply final loaded
+  pub reached : IsReached alone now.shelf.seen final
+  pub counted : now.shelf.published ≡ start.shelf.published + (loads + loaded)
+  pub gone : Consumes start.wire.left now.wire.left bytes
+  pub wrote : Appends start.wire.written now.wire.written (text ++ take count reply)
   pub most : length bytes ≤ MOST_BYTES
 
--- a session that read to its end, or to a BYE
-abbrev pub EndsWhole : Option (List ℕ) → Option (List ℕ) → Option (List ℕ) → Bool → Option (List ℕ) → Bool
-    → List RecordView
-    → ℕ → List RecordView → ℕ → Type 0
-EndsWhole left0 written0 left ended written alone seen0 published0 records published =
-    Ends (IsComplete ended left) left0 written0 left ended written (IsServed alone seen0 published0 records published)
+-- a session that answered all whole items, for the reason P
+abbrev pub EndsServed : (List ℕ → List Item → Type 0) → Bool → Moment → Moment → Type 0
+EndsServed P alone start now = Ends P start.wire now.wire (IsServed alone start.shelf now.shelf)
 
--- a session whose source failed
-abbrev pub EndsShort : Option (List ℕ) → Option (List ℕ) → Option (List ℕ) → Bool → Option (List ℕ) → Bool
-    → List RecordView
-    → ℕ → List RecordView → ℕ → Type 0
-EndsShort left0 written0 left ended written alone seen0 published0 records published =
-    Ends (IsCutShort ended) left0 written0 left ended written (IsServed alone seen0 published0 records published)
-
--- a session that was sent too much
-abbrev pub EndsLong : Option (List ℕ) → Option (List ℕ) → Option (List ℕ) → Bool → Option (List ℕ) → Bool
-    → List RecordView
-    → ℕ → List RecordView → ℕ → Type 0
-EndsLong left0 written0 left ended written alone seen0 published0 records published =
-    Ends (IsTooLong ended) left0 written0 left ended written (IsServed alone seen0 published0 records published)
+-- how a session ends, from one moment to another
+abbrev pub EndsAs : SessionEnd → Bool → Moment → Moment → Type 0
+EndsAs Done alone start now = EndsServed (IsComplete now.wire) alone start now
+EndsAs ReadFault alone start now = EndsServed (IsCutShort now.wire) alone start now
+EndsAs TooLong alone start now = EndsServed (IsTooLong now.wire) alone start now
+EndsAs WriteFault alone start now = Breaks alone start now

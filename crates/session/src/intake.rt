@@ -12,14 +12,3 @@ pub enum Intake {
     /// A network text is passed over to its END: there was no memory to read it.
     Lost,
 }
-
-/// What a line led to.
-#[derive(Clone, Copy, PartialEq, Eq, Debug)]
-pub enum Taken {
-    /// Nothing is to be written.
-    Silent,
-    /// A reply was made.
-    Reply,
-    /// The reply to a BYE was made, which ends the session.
-    Bye,
-}

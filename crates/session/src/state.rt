@@ -1,28 +1,32 @@
 //! The state of a session, and what each line does to it. Nothing here reads or writes.
-ghost use Rattle.std.specs.Prelude.{◌≡◌, ◌≢◌, ℕ, ◌+◌, ◌^◌, ◌<◌, ◌≤◌, List, [], None, Some, false};
-ghost use Rattle.std.specs.Prelude.{length, IfOk, Ok, IsFalse, IsTrue, if◌then◌else◌};
+ghost use Rattle.std.specs.Prelude.{◌≡◌, ℕ, ◌+◌, ◌^◌, ◌<◌, ◌≤◌, ◌⊎◌, List, [], None, Some, true, false};
+ghost use Rattle.std.specs.Prelude.{length, IfOk, Ok, IsFalse, IsTrue};
 ghost use Rattle.std.specs.Arc.{arc_value};
 ghost use Rattle.std.specs.Option.{option_copied};
 ghost use Rattle.std.specs.declared.option.Option.{Option};
 ghost use Rattle.job_queue.specs.declared.jobs.TheConstants.{MOST_WORKERS};
 ghost use Rattle.network_text.specs.Texts.{verdict_of};
 ghost use Rattle.query_lang.specs.Replies.{loaded_text, refused_text};
+ghost use Rattle.reply_lines.specs.Tails.{Leads};
 ghost use Rattle.query_lang.specs.Requests.{IsOf, needs_record};
-ghost use Rattle.session.specs.Answers.{IsTextRefusal, RepliesTo, sheet_in};
-ghost use Rattle.session.specs.Modes.{Closing, Loads};
-ghost use Rattle.session.specs.Taking.{HasRead, HasOpen, LineTaken, is_stale, lines_in};
+ghost use Rattle.session.specs.Answers.{IsTextRefusal, sheet_in};
+ghost use Rattle.session.specs.Modes.{Loads};
+ghost use Rattle.session.specs.Points.{IsIdle};
+ghost use Rattle.session.specs.Reporting.{Carried, IsHeld, IsReporting, ReportLine, Reported};
+ghost use Rattle.session.specs.Shelved.{IsLook, shelved};
+ghost use Rattle.session.specs.Taking.{HasRead, HasOpen, LineTaken, Owing, is_open, is_stale, lines_in};
+ghost use Rattle.session.specs.Turns.{is_owed};
+ghost use Rattle.text_forms.specs.Items.{items_from};
 ghost use Rattle.tree_versions.specs.Records.{RecordView, record_at};
-ghost use Rattle.tree_versions.specs.Shelves.{Looks};
 
-use crate::intake::{Intake, Taken};
+use crate::desk::Desk;
+use crate::intake::Intake;
 use crate::means::Means;
 use cut_model::NoMemory;
 use job_queue::MOST_WORKERS;
 use network_text::{Fed, Reader, Sheet, TextFault, TextKind};
 use path_minimum::PathRoom;
-use query_lang::{
-    ReplyBuffer, Request, bye_reply, loaded_reply, parse_request, refusal_reply, report_reply,
-};
+use query_lang::{Request, parse_request};
 use std::alloc::Global;
 use std::mem;
 use std::sync::{Arc, Wait};
@@ -37,16 +41,25 @@ const SHELF_FULL: u32 = 20;
 /// The refusal of a text for which there was no memory.
 const OUT_OF_MEMORY: u32 = 90;
 
-/// The text that is open, all room that replies need, and how many workers build a tree.
+/// The text that is open, the reply in work, the room of a path, and how many workers build a tree.
 #[derive(Drop)]
 pub struct State {
     pub intake: Intake,
-    pub reply: ReplyBuffer,
+    pub desk: Desk,
     room: PathRoom,
     workers: u32,
     ghost some: { 0 < workers },
     ghost most: { workers ≤ MOST_WORKERS },
     ghost unended: { is_stale intake ≡ false },
+}
+
+/// Looks at the shelf, and tells how many records are seen.
+fn look<H: Shelf>(shelf: &mut H) -> u32
+    ensures looks { IsLook (H.alone shelf.old) (shelved H.Shelf shelf.old) (shelved H.Shelf shelf.new) }
+    ensures count { result ≡ length (H.seen shelf.new) }
+    ensures alone { H.alone shelf.new ≡ H.alone shelf.old }
+{
+    shelf.look()
 }
 
 /// The record of a version that was seen, if there is one: version 0 has none.
@@ -84,7 +97,7 @@ fn begin_text(alloc: Global) -> Intake
 }
 
 impl State {
-    /// The state between two items, with the room for one reply and for the longest path, in which so many workers
+    /// The state between two items, with the room for a run of lines and for the longest path, in which so many workers
     /// build a tree.
     ///
     /// # Errors
@@ -93,42 +106,58 @@ impl State {
         requires some { 0 < workers }
         requires most { workers ≤ MOST_WORKERS }
         ensures between { IfOk result (λ state. HasOpen state.intake None) }
+        ensures no_line { IfOk result (λ state. lines_in state.intake ≡ 0) }
+        ensures idle { IfOk result (λ state. IsIdle state.desk) }
     {
         Ok(State {
             intake: Intake::Between,
-            reply: ReplyBuffer::make(alloc)?,
+            desk: Desk::make(alloc)?,
             room: PathRoom::make(alloc)?,
             workers,
         })
     }
 
-    /// Makes a refusal by a version; that of a text tells its line.
-    fn refuse(&mut self, version: u32, number: u32, line: Option<u32>)
-        ensures reply { self.new.reply ≡ refused_text version number line }
-        ensures intake { self.new.intake ≡ self.old.intake }
+    /// Begins anew: nothing is open, and no reply is in work.
+    pub fn restart(&mut self)
+        ensures between { HasOpen self.new.intake None }
+        ensures no_line { lines_in self.new.intake ≡ 0 }
+        ensures idle { IsIdle self.new.desk }
     {
-        refusal_reply(&mut self.reply, version, number, line);
+        self.intake = Intake::Between;
+        self.desk.clear();
     }
 
-    /// Looks at the shelf, and makes a refusal by the last version.
+    /// Begins a refusal by a version; that of a text tells its line.
+    fn refuse(&mut self, version: u32, number: u32, line: Option<u32>)
+        ensures reply { self.new.desk.run ≡ refused_text version number line }
+        ensures whole { self.new.desk.at.left ≡ 0 }
+        ensures owed { is_owed self.new.desk ≡ true }
+        ensures intake { self.new.intake ≡ self.old.intake }
+    {
+        self.desk.refuse(version, number, line);
+    }
+
+    /// Looks at the shelf, and begins a refusal by the last version.
     fn refuse_load<H: Shelf>(&mut self, shelf: &mut H, number: u32, line: Option<u32>)
-        ensures looks { Looks (H.alone shelf.old) (H.seen shelf.old) (H.seen shelf.new) }
-        ensures reply { self.new.reply ≡ refused_text (length (H.seen shelf.new)) number line }
-        ensures published { H.published shelf.new ≡ H.published shelf.old }
+        ensures looks { IsLook (H.alone shelf.old) (shelved H.Shelf shelf.old) (shelved H.Shelf shelf.new) }
+        ensures reply { self.new.desk.run ≡ refused_text (length (H.seen shelf.new)) number line }
+        ensures whole { self.new.desk.at.left ≡ 0 }
+        ensures owed { is_owed self.new.desk ≡ true }
         ensures alone { H.alone shelf.new ≡ H.alone shelf.old }
         ensures intake { self.new.intake ≡ self.old.intake }
     {
-        let version = shelf.look();
+        let version = look(shelf);
         self.refuse(version, number, line);
     }
 
-    /// Looks at the shelf, and makes the refusal of a text. Want of memory tells no line.
+    /// Looks at the shelf, and begins the refusal of a text. Want of memory tells no line.
     fn refuse_text<H: Shelf>(&mut self, shelf: &mut H, fault: TextFault)
-        ensures looks { Looks (H.alone shelf.old) (H.seen shelf.old) (H.seen shelf.new) }
-        ensures reply { IsTextRefusal (length (H.seen shelf.new)) fault self.new.reply }
+        ensures looks { IsLook (H.alone shelf.old) (shelved H.Shelf shelf.old) (shelved H.Shelf shelf.new) }
+        ensures reply { IsTextRefusal (length (H.seen shelf.new)) fault self.new.desk.run }
         ensures lost { fault.kind ≡ TextKind.Memory
-            → self.new.reply ≡ refused_text (length (H.seen shelf.new)) 90 None }
-        ensures published { H.published shelf.new ≡ H.published shelf.old }
+            → self.new.desk.run ≡ refused_text (length (H.seen shelf.new)) 90 None }
+        ensures whole { self.new.desk.at.left ≡ 0 }
+        ensures owed { is_owed self.new.desk ≡ true }
         ensures alone { H.alone shelf.new ≡ H.alone shelf.old }
         ensures intake { self.new.intake ≡ self.old.intake }
     {
@@ -139,20 +168,24 @@ impl State {
         }
     }
 
-    /// Takes a line, without its line feed; of a line of more than MOST_LINE_BYTES one byte more suffices.
-    /// A reply that it asks for is in `reply` afterwards. Memory is taken for the lines of a text and for
-    /// its record alone.
+    /// Takes a line, without its line feed, where no reply is in work, and says whether it was a BYE; of a line of more
+    /// than MOST_LINE_BYTES one byte more suffices. A reply that it asks for is in work afterwards. Memory is taken for
+    /// the lines of a text and for its record alone.
     pub fn take_line<R: Threads + Wait + Sync, H: Shelf, G: Gate + Sync>(
         &mut self,
         means: &Means<'_, R, G>,
         shelf: &mut H,
         line: &[u8],
-    ) -> Taken
+    ) -> bool
+        requires idle { IsIdle self.old.desk }
         requires few { lines_in self.old.intake < 2 ^ 31 }
         ensures taken { (open_text : Option (List (List ℕ))) → HasOpen self.old.intake open_text
-            → LineTaken (H.alone shelf.old) (H.seen shelf.old) (H.published shelf.old) (H.seen shelf.new)
-            (H.published shelf.new) open_text self.new.intake line.now self.new.reply result }
+            → LineTaken result (H.alone shelf.old) (shelved H.Shelf shelf.old) (shelved H.Shelf shelf.new)
+            open_text self.new.intake line.now self.new.desk }
         ensures lines { lines_in self.new.intake ≤ lines_in self.old.intake + 1 }
+        ensures between { IsIdle self.new.desk ⊎ HasOpen self.new.intake None }
+        ensures bye { result ≡ true → HasOpen self.new.intake None }
+        ensures held { IsHeld (H.seen shelf.new) self.new.desk }
         ensures alone { H.alone shelf.new ≡ H.alone shelf.old }
     {
         match mem::replace(&mut self.intake, Intake::Between) {
@@ -163,55 +196,52 @@ impl State {
     }
 
     /// Takes a line between two items: it looks at the shelf once, and answers from the last record.
-    fn take_request<H: Shelf>(&mut self, alloc: Global, shelf: &mut H, line: &[u8]) -> Taken
+    fn take_request<H: Shelf>(&mut self, alloc: Global, shelf: &mut H, line: &[u8]) -> bool
+        requires idle { IsIdle self.old.desk }
         requires between { HasOpen self.old.intake None }
-        ensures taken { LineTaken (H.alone shelf.old) (H.seen shelf.old) (H.published shelf.old) (H.seen shelf.new)
-            (H.published shelf.new) None self.new.intake line.now self.new.reply result }
+        ensures taken { LineTaken result (H.alone shelf.old) (shelved H.Shelf shelf.old) (shelved H.Shelf shelf.new)
+            None self.new.intake line.now self.new.desk }
         ensures no_line { lines_in self.new.intake ≡ 0 }
+        ensures between { IsIdle self.new.desk ⊎ HasOpen self.new.intake None }
+        ensures bye { result ≡ true → HasOpen self.new.intake None }
+        ensures held { IsHeld (H.seen shelf.new) self.new.desk }
         ensures alone { H.alone shelf.new ≡ H.alone shelf.old }
     {
-        let version = shelf.look();
+        let version = look(shelf);
         let seen = seen_record(shelf, version);
         match parse_request(line, sheet_of(seen)) {
-            Ok(Request::Nothing) => Taken::Silent,
+            Ok(Request::Nothing) => false,
             Ok(Request::Load) => {
                 self.intake = begin_text(alloc);
-                Taken::Silent
+                false
             }
             Ok(Request::Bye) => {
-                bye_reply(&mut self.reply, version);
-                Taken::Bye
+                self.desk.bye(version);
+                true
             }
             Ok(request) => {
                 self.report(version, seen, &request);
-                Taken::Reply
+                false
             }
             Err(fault) => {
                 self.refuse(version, fault.number(), None);
-                Taken::Reply
+                false
             }
         }
     }
 
-    /// Makes the reply that is read from a record: from its network, its tree and its run.
+    /// Begins the reply that is read from a record: from its network, its tree and its run.
     fn report(&mut self, version: u32, seen: Option<&Record>, request: &Request)
         requires needs { IsTrue (needs_record request.now) }
         requires of { IsOf (sheet_in (option_copied seen)) request.now }
-        ensures reply { RepliesTo (option_copied seen.entry) version (Ok request.now) self.new.reply }
+        ensures reported { Reported (option_copied seen.entry) (record { version = version; request = request.now })
+            self.new.desk }
         ensures intake { self.new.intake ≡ self.old.intake }
     {
-        let Some(record) = seen else {
+        let Some(made) = seen else {
             unreachable!();
         };
-        report_reply(
-            &mut self.reply,
-            version,
-            record.sheet(),
-            record.finished(),
-            record.ladder(),
-            request,
-            &mut self.room,
-        );
+        self.desk.report(version, made, request, &mut self.room);
     }
 
     /// Takes a line of a text that is read.
@@ -221,43 +251,51 @@ impl State {
         shelf: &mut H,
         mut reader: Reader,
         line: &[u8],
-    ) -> Taken
+    ) -> bool
+        requires idle { IsIdle self.old.desk }
         requires open { IsFalse reader.ended }
         requires few { reader.progress.lines < 2 ^ 31 }
         ensures taken { (text : List (List ℕ)) → HasOpen (Intake.Text reader) (Some text)
-            → LineTaken (H.alone shelf.old) (H.seen shelf.old) (H.published shelf.old) (H.seen shelf.new)
-            (H.published shelf.new) (Some text) self.new.intake line.now self.new.reply result }
+            → LineTaken result (H.alone shelf.old) (shelved H.Shelf shelf.old) (shelved H.Shelf shelf.new)
+            (Some text) self.new.intake line.now self.new.desk }
         ensures lines { lines_in self.new.intake ≤ reader.progress.lines + 1 }
+        ensures between { IsIdle self.new.desk ⊎ HasOpen self.new.intake None }
+        ensures bye { result ≡ true → HasOpen self.new.intake None }
+        ensures held { IsHeld (H.seen shelf.new) self.new.desk }
         ensures alone { H.alone shelf.new ≡ H.alone shelf.old }
     {
         match reader.line(line) {
             Fed::More => {
                 self.intake = Intake::Text(reader);
-                Taken::Silent
+                false
             }
             Fed::Ended => {
                 self.end_text(means, shelf, reader);
                 self.intake = Intake::Between;
-                Taken::Reply
+                false
             }
         }
     }
 
     /// Takes a line of a text that is passed over.
-    fn take_lost<H: Shelf>(&mut self, shelf: &mut H, line: &[u8]) -> Taken
+    fn take_lost<H: Shelf>(&mut self, shelf: &mut H, line: &[u8]) -> bool
+        requires idle { IsIdle self.old.desk }
         ensures taken { (text : List (List ℕ))
-            → LineTaken (H.alone shelf.old) (H.seen shelf.old) (H.published shelf.old) (H.seen shelf.new)
-            (H.published shelf.new) (Some text) self.new.intake line.now self.new.reply result }
+            → LineTaken result (H.alone shelf.old) (shelved H.Shelf shelf.old) (shelved H.Shelf shelf.new)
+            (Some text) self.new.intake line.now self.new.desk }
         ensures no_line { lines_in self.new.intake ≡ 0 }
+        ensures between { IsIdle self.new.desk ⊎ HasOpen self.new.intake None }
+        ensures bye { result ≡ true → HasOpen self.new.intake None }
+        ensures held { IsHeld (H.seen shelf.new) self.new.desk }
         ensures alone { H.alone shelf.new ≡ H.alone shelf.old }
     {
         if is_end(line) {
             self.refuse_load(shelf, OUT_OF_MEMORY, None);
             self.intake = Intake::Between;
-            Taken::Reply
+            false
         } else {
             self.intake = Intake::Lost;
-            Taken::Silent
+            false
         }
     }
 
@@ -270,8 +308,9 @@ impl State {
     )
         requires few { reader.progress.lines < 2 ^ 31 }
         ensures loads { (text : List (List ℕ)) → HasRead reader.progress text
-            → Loads (H.alone shelf.old) (H.seen shelf.old) (H.published shelf.old) (verdict_of text reader.ended)
-            self.new.reply (H.seen shelf.new) (H.published shelf.new) }
+            → Loads (H.alone shelf.old) (shelved H.Shelf shelf.old) (verdict_of text reader.ended) self.new.desk.run
+            (shelved H.Shelf shelf.new) }
+        ensures whole { self.new.desk.at.left ≡ 0 }
         ensures alone { H.alone shelf.new ≡ H.alone shelf.old }
     {
         match reader.close() {
@@ -284,10 +323,13 @@ impl State {
     fn refuse_unfinished<H: Shelf>(&mut self, shelf: &mut H, reader: Reader)
         requires open { IsFalse reader.ended }
         requires few { reader.progress.lines < 2 ^ 31 }
-        ensures owed { (text : List (List ℕ)) → HasRead reader.progress text
-            → Closing (H.alone shelf.old) (H.seen shelf.old) (H.published shelf.old) (Some text) self.new.reply
-            (H.seen shelf.new) (H.published shelf.new) }
+        ensures loads { (text : List (List ℕ)) → HasRead reader.progress text
+            → Loads (H.alone shelf.old) (shelved H.Shelf shelf.old) (verdict_of text false) self.new.desk.run
+            (shelved H.Shelf shelf.new) }
+        ensures whole { self.new.desk.at.left ≡ 0 }
+        ensures owed { is_owed self.new.desk ≡ true }
         ensures alone { H.alone shelf.new ≡ H.alone shelf.old }
+        ensures intake { self.new.intake ≡ self.old.intake }
     {
         match reader.close() {
             Ok(_) => unreachable!(),
@@ -303,8 +345,9 @@ impl State {
         shelf: &mut H,
         sheet: Sheet,
     )
-        ensures loads { Loads (H.alone shelf.old) (H.seen shelf.old) (H.published shelf.old) (Ok sheet) self.new.reply
-            (H.seen shelf.new) (H.published shelf.new) }
+        ensures loads { Loads (H.alone shelf.old) (shelved H.Shelf shelf.old) (Ok sheet) self.new.desk.run
+            (shelved H.Shelf shelf.new) }
+        ensures whole { self.new.desk.at.left ≡ 0 }
         ensures alone { H.alone shelf.new ≡ H.alone shelf.old }
     {
         match self.make_record(means, sheet) {
@@ -325,10 +368,11 @@ impl State {
         Record::make(means.alloc, sheet, tree)
     }
 
-    /// Publishes a record, and makes the reply by its version.
+    /// Publishes a record, and begins the reply by its version.
     fn publish_record<H: Shelf>(&mut self, shelf: &mut H, new: Arc<Record>)
-        ensures loads { Loads (H.alone shelf.old) (H.seen shelf.old) (H.published shelf.old) (Ok (arc_value new).sheet)
-            self.new.reply (H.seen shelf.new) (H.published shelf.new) }
+        ensures loads { Loads (H.alone shelf.old) (shelved H.Shelf shelf.old) (Ok (arc_value new).sheet)
+            self.new.desk.run (shelved H.Shelf shelf.new) }
+        ensures whole { self.new.desk.at.left ≡ 0 }
         ensures alone { H.alone shelf.new ≡ H.alone shelf.old }
     {
         match shelf.publish(new) {
@@ -338,24 +382,33 @@ impl State {
         }
     }
 
-    /// Makes the reply by the version of a record that was published.
+    /// Begins the reply by the version of a record that was published.
     fn tell_loaded<H: Shelf>(&mut self, shelf: &H, version: u32)
         requires first { 0 < version }
         requires last { version ≤ length (H.seen shelf.now) }
         ensures reply { (made : RecordView) → record_at (H.seen shelf.now) version ≡ Some made
-            → self.new.reply ≡ loaded_text version made.sheet.net }
+            → self.new.desk.run ≡ loaded_text version made.sheet.net }
+        ensures whole { self.new.desk.at.left ≡ 0 }
         ensures intake { self.new.intake ≡ self.old.intake }
     {
         let made = shelf.record_at(version);
-        loaded_reply(&mut self.reply, version, made.sheet().net());
+        self.desk.loaded(version, made.sheet().net());
     }
 
-    /// Makes the reply that is owed where the input ends, and says whether one is.
+    /// Begins the reply that is owed where the input ends, and says whether a text was open.
     pub fn close_input<H: Shelf>(&mut self, shelf: &mut H) -> bool
+        requires idle { IsIdle self.old.desk }
         requires few { lines_in self.old.intake < 2 ^ 31 }
-        ensures owed { (open_text : Option (List (List ℕ))) → HasOpen self.old.intake open_text
-            → Closing (H.alone shelf.old) (H.seen shelf.old) (H.published shelf.old) open_text
-            (if result then self.new.reply else []) (H.seen shelf.new) (H.published shelf.new) }
+        ensures owing { (open_text : Option (List (List ℕ))) → HasOpen self.old.intake open_text
+            → Owing (H.alone shelf.old) (shelved H.Shelf shelf.old) (shelved H.Shelf shelf.new)
+            (items_from true open_text []) self.new.desk }
+        ensures closed { HasOpen self.new.intake None }
+        ensures no_line { lines_in self.new.intake ≡ 0 }
+        ensures open { result ≡ is_open self.old.intake }
+        ensures owed { result ≡ true → is_owed self.new.desk ≡ true }
+        ensures still { result ≡ false → self.new.desk ≡ self.old.desk }
+        ensures unseen { result ≡ false → shelf.new ≡ shelf.old }
+        ensures held { IsHeld (H.seen shelf.new) self.new.desk }
         ensures alone { H.alone shelf.new ≡ H.alone shelf.old }
     {
         match mem::replace(&mut self.intake, Intake::Between) {
@@ -369,5 +422,18 @@ impl State {
                 true
             }
         }
+    }
+    /// Fills the run with further lines of the report in work, where lines are left and all of the run was taken.
+    pub fn fill<H: Shelf>(&mut self, shelf: &H)
+        requires more { 0 < self.old.desk.at.left }
+        requires held { IsHeld (H.seen shelf.now) self.old.desk }
+        ensures leads { Leads Carried (ReportLine (H.seen shelf.now) self.old.desk.reply) self.old.desk.at
+            self.new.desk.run self.new.desk.at }
+        ensures fewer { self.new.desk.at.left < self.old.desk.at.left }
+        ensures reply { self.new.desk.reply ≡ self.old.desk.reply }
+        ensures held { IsReporting (H.seen shelf.now) self.new.desk }
+        ensures intake { self.new.intake ≡ self.old.intake }
+    {
+        self.desk.fill(shelf, &mut self.room);
     }
 }

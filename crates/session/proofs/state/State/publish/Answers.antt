@@ -7,5 +7,4 @@ returns-in-Ok-clause-loads g c = rw c.in-Ok.ensures.sheet at c.publish_record.en
 
 pub returns-in-Err-clause-loads : goal.returns-in-Err-clause-loads
 returns-in-Err-clause-loads g c =
-    want_loads _ _ _ _ _ _ (g.H.Shelf.few c.refuse_load.new.shelf) c.refuse_load.ensures.looks
-    c.refuse_load.ensures.published (Ok c.args.sheet) c.refuse_load.ensures.reply
+    want_loads c.refuse_load.ensures.looks (Ok c.args.sheet) c.refuse_load.ensures.reply
