@@ -2,9 +2,9 @@
 # usage: tests/wrong_bodies.sh
 #
 # Applies each patch of tests/wrong_bodies to a copy of the crates. Each is a body of a build that meets
-# every contract and is wrong all the same: one in which no two workers are at the gate at once. It is
-# proved, and the test two_workers_meet_at_the_gate of worker_gate fails. That takes minutes, so
-# neither tests/run nor .ci/run calls it.
+# every contract and is wrong all the same: no two workers are at the gate at once. It is proved, and
+# the test two_workers_meet_at_the_gate of worker_gate fails. That takes minutes, so neither tests/run
+# nor .ci/run calls it.
 #
 # The last line is `N passed, M failed`, and the status is 0 where M is 0.
 set -u
