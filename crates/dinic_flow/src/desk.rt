@@ -102,6 +102,16 @@ impl FlowDesk {
         self.graph.load(net);
     }
 
+    /// Forgets that cuts were hard, so that the next one begins without a coarse flow: which flow the
+    /// desk holds after it is then told by the network and the two routers alone, whatever was cut
+    /// before. Its value and its least side are so anyway. After `desk.forget_hard_cuts()` the desk
+    /// holds what it held.
+    pub fn forget_hard_cuts(&mut self)
+        ensures { self.new ≡ self.old }
+    {
+        self.coarse_cuts = 0;
+    }
+
     /// How much is left at least on the arcs of the coarse flow with which a cut begins: about the
     /// share of an arc of `s` in what can leave `s` or reach `t`. 1 where there is to be no coarse flow.
     fn coarse_threshold(&self, s: u32, t: u32) -> u64
