@@ -1,5 +1,5 @@
 -- Sheets as texts, and texts as bytes.
-use Rattle.std.specs.Prelude.{ℕ, List, [], ◌∷◌, ◌++◌, Bool, true, false, map, codes, decimal, slice_index_or}
+use Rattle.std.specs.Prelude.{ℕ, ◌+◌, length, List, [], ◌∷◌, ◌++◌, Bool, true, false, map, codes, decimal, slice_index_or}
 use Rattle.std.specs.Prelude.{Result, if◌then◌else◌}
 use Rattle.std.specs.List.{concat}
 use Rattle.cut_model.specs.declared.network.Link.{Link}
@@ -26,6 +26,14 @@ link_text names link = concat (codes "link " ∷ name_at names link.a ∷ codes 
 unfoldable pub sheet_text : SheetView → List ℕ
 sheet_text sheet = concat (map router_text sheet.names)
     ++ (concat (map (link_text sheet.names) sheet.net.links) ++ codes "END\n")
+
+-- The same as a list of lines.
+abbrev pub text_lines : SheetView → List (List ℕ)
+text_lines sheet = map router_text sheet.names ++ (map (link_text sheet.names) sheet.net.links ++ codes "END\n" ∷ [])
+
+-- How many lines that are.
+abbrev pub sheet_lines : SheetView → ℕ
+sheet_lines sheet = sheet.net.routers + length sheet.net.links + 1
 
 -- The lines before the first END, or all where there is none.
 abbrev pub before_end : List (List ℕ) → List (List ℕ)

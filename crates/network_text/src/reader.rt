@@ -1,6 +1,7 @@
 //! Reading a network text line by line.
 
-ghost use Rattle.std.specs.Prelude.{◌≡◌, ◌<◌, ◌≤◌, ◌^◌, IfOk, IsTrue, IsFalse, false, length, true};
+ghost use Rattle.std.specs.Prelude.{◌≡◌, ◌<◌, ◌≤◌, ◌^◌, Err, IfOk, IfSome, IsFalse, IsTrue};
+ghost use Rattle.std.specs.Prelude.{None, Ok, false, length, true};
 ghost use Rattle.cut_model.specs.declared.network.TheConstants.{MOST_LINKS, MOST_ROUTERS};
 ghost use Rattle.std.specs.Result.{IsErr, IsOk};
 ghost use Rattle.text_forms.specs.Words.{is_end as end_line};
@@ -102,6 +103,15 @@ impl Reader {
             });
         }
         Fed::More
+    }
+
+    /// The first thing that went wrong so far, if anything did.
+    /// Behind `lnk a b 7` it is `UnknownWord` in line 1.
+    pub fn noted(&self) -> Option<TextFault>
+        ensures none { result ≡ None → self.now.progress.draft ≡ Ok self.now.kept }
+        ensures some { IfSome result (λ fault. self.now.progress.draft ≡ Err fault) }
+    {
+        self.noted
     }
 
     /// The sheet of the lines: the routers in the order in which their names first appeared, and the

@@ -1,10 +1,11 @@
 //! Writing a sheet as a network text.
 
-ghost use Rattle.std.specs.Prelude.{◌≡◌, ◌<◌, length, Ok};
-ghost use Rattle.std.specs.Prelude.{map};
+ghost use Rattle.std.specs.Prelude.{◌≡◌, ◌+◌, ◌<◌, ◌≤◌, [], length, map, slice_index_or, Ok};
 ghost use Rattle.std.specs.List.{concat};
 ghost use Rattle.network_text.specs.Sheets.{IsSheet};
-ghost use Rattle.network_text.specs.Writing.{link_text, name_at, router_text, sheet_text, verdict_in};
+ghost use Rattle.cut_model.specs.declared.network.TheConstants.{MOST_LINKS, MOST_ROUTERS};
+ghost use Rattle.network_text.specs.Writing.{link_text, name_at, router_text, sheet_lines, sheet_text, text_lines};
+ghost use Rattle.network_text.specs.Writing.{verdict_in};
 ghost use Rattle.wires.specs.Puts.{Puts};
 
 use crate::sheet::Sheet;
@@ -83,4 +84,35 @@ pub fn write_link<K: Sink>(sheet: &Sheet, link: Link, sink: &mut K) -> Result<()
         ],
         sink,
     )
+}
+
+/// How many lines the text of a sheet has: one for each router and each link, and END. Behind `link b a 007`
+/// they are 4.
+pub fn sheet_line_count(sheet: &Sheet) -> u64
+    ensures value { result ≡ sheet_lines sheet.now }
+    ensures few { result ≤ MOST_ROUTERS + MOST_LINKS + 1 }
+{
+    let net = sheet.net();
+    u64::from(net.routers()) + net.links().len() as u64 + 1
+}
+
+/// Writes the line of a place, counted from 0, of the text of a sheet. It takes no memory, and finds the line
+/// without going over others: behind `link b a 007` that of place 2 is `link b a 7`.
+///
+/// # Errors
+/// [`Failed`] where a put failed. A front of the line was written then.
+pub fn write_sheet_line<K: Sink>(sheet: &Sheet, place: u64, sink: &mut K) -> Result<(), Failed>
+    requires place { place < sheet_lines sheet.now }
+    ensures puts { Puts K.Sink sink.old sink.new result (slice_index_or (text_lines sheet.now) place []) }
+{
+    let routers = u64::from(sheet.net().routers());
+    if place < routers {
+        return write_router(sheet, place as u32, sink);
+    }
+    let links = sheet.net().links();
+    let behind = place - routers;
+    if behind < links.len() as u64 {
+        return write_link(sheet, links[behind as usize], sink);
+    }
+    put_pieces(&[b"END\n"], sink)
 }
