@@ -8,6 +8,7 @@ use Rattle.network_text.specs.Sheets.{SheetView}
 use Rattle.network_text.specs.Writing.{sheet_text}
 use Rattle.query_lang.specs.declared.request.Request.{Request}
 use Rattle.query_lang.specs.declared.request.Request.TheVariants.{Nothing, Load, Cut, Path, Tree, Run, Weakest, Bye}
+use Rattle.query_lang.specs.declared.request.Request.TheVariants.{Witness, Certificate}
 use Rattle.query_lang.specs.declared.request.Request.TheVariants as asks
 use Rattle.query_lang.specs.declared.request.RequestFault.{RequestFault}
 use Rattle.query_lang.specs.Replies.{bye_text, cut_text, head_text, loaded_text, net_text, refused_text}
@@ -68,6 +69,12 @@ path = refl
 weakest : request_of (Some sheet) (codes "WEAKEST") ≡ Ok Weakest
 unfolding number_in is_terminal
 weakest = refl
+
+witness : request_of (Some sheet) (codes "WITNESS b a") ≡ Ok (Witness 1 0)
+witness = refl
+
+certificate : request_of (Some sheet) (codes "CERTIFICATE") ≡ Ok Certificate
+certificate = refl
 
 tree : request_of (Some sheet) (codes "TREE") ≡ Ok Tree
 tree = refl
@@ -172,6 +179,25 @@ weakest_with_further_word = refl
 
 weakest_before : before (codes "WEAKEST") ≡ 6
 weakest_before = refl
+
+-- Flows between two routers are refused as their path is, and the certificate as the tree is.
+witness_of_one : before (codes "WITNESS a") ≡ 3
+witness_of_one = refl
+
+witness_before : before (codes "WITNESS a a") ≡ 6
+witness_before = refl
+
+witness_to_nowhere : later (codes "WITNESS z z") ≡ 4
+witness_to_nowhere = refl
+
+witness_to_itself : later (codes "WITNESS b b") ≡ 5
+witness_to_itself = refl
+
+certificate_with_further_word : before (codes "CERTIFICATE a") ≡ 3
+certificate_with_further_word = refl
+
+certificate_before : before (codes "CERTIFICATE") ≡ 6
+certificate_before = refl
 
 -- The one router of a network and itself are two equal names.
 lonely_cut : number_told (request_of (Some lonely) (codes "CUT a a")) ≡ 5

@@ -11,8 +11,8 @@ use Rattle.network_text.specs.Sheets.{IsSheet, SheetView}
 use Rattle.network_text.specs.Writing.{link_text, name_at, router_text, sheet_text}
 use Rattle.text_forms.specs.Names.{is_name}
 use Rattle.query_lang.specs.Found.{found_lines}
-use Rattle.query_lang.specs.Replies.{cut_head, cut_text, head_text, net_lines, net_text, sheet_lines, side_names}
-use Rattle.query_lang.specs.Replies.{text_lines}
+use Rattle.query_lang.specs.Replies.{cut_head, cut_text, head_text, net_lines, net_text, side_names}
+use Rattle.network_text.specs.Writing.{sheet_lines, text_lines}
 use Rattle.query_lang.specs.Reports.{IsReport, TellsReport}
 use Rattle.query_lang.specs.Trees.{child_line, children_of, commit_line, edge_line, path_lines, path_text, run_lines}
 use Rattle.query_lang.specs.Trees.{run_text}

@@ -9,10 +9,11 @@ use Rattle.cut_model.specs.Terminals.{terminal_count}
 use Rattle.network_text.specs.Sheets.{SheetView}
 use Rattle.tree_state.specs.Views.{TreeView}
 use Rattle.query_lang.specs.Reports.{IsReport}
-use Rattle.query_lang.specs.Requests.{about, ends_of, needs_record, of_one_word, request_of, weakest_of, words_ask}
+use Rattle.query_lang.specs.Requests.{about, ends_of, is_report, needs_record, of_one_word, request_of}
+use Rattle.query_lang.specs.Requests.{weakest_of, words_ask}
 use Rattle.query_lang.specs.declared.request.Request.{Request}
 use Rattle.query_lang.specs.declared.request.Request.TheVariants.{Nothing, Load, Cut, Path, Tree, Run, Net}
-use Rattle.query_lang.specs.declared.request.Request.TheVariants.{Weakest, Bye}
+use Rattle.query_lang.specs.declared.request.Request.TheVariants.{Weakest, Witness, Certificate, Bye}
 use Rattle.query_lang.specs.declared.request.RequestFault.{RequestFault}
 use Rattle.query_lang.specs.declared.request.RequestFault.TheVariants.{UnknownWord, LineTooLong}
 use Rattle.query_lang.specs.declared.request.RequestFault.TheVariants.{OneRouter}
@@ -39,6 +40,22 @@ report-needs version sheet tree Nothing text report = absurd report
 report-needs version sheet tree Load text report = absurd report
 report-needs version sheet tree Bye text report = absurd report
 report-needs version sheet tree request text report = refl
+
+-- And it is one that a record alone settles.
+pub report-is : (version : ℕ) (sheet : SheetView) (tree : TreeView) (request : Request) (text : List ℕ)
+    → IsReport version sheet tree request text → IsTrue (is_report request)
+report-is version sheet tree Nothing text report = absurd report
+report-is version sheet tree Load text report = absurd report
+report-is version sheet tree Bye text report = absurd report
+report-is version sheet tree (Witness a b) text report = absurd report
+report-is version sheet tree Certificate text report = absurd report
+report-is version sheet tree request text report = refl
+
+-- Such a request needs a record.
+pub is_report-needs : (request : Request) → IsTrue (is_report request) → IsTrue (needs_record request)
+is_report-needs (Witness a b) report = refl
+is_report-needs Certificate report = refl
+is_report-needs request report = report
 
 -- Such an answer is right for a line that is none of the three.
 pub kind_of_other : (answer : Result Request RequestFault) (load bye : Bool) → IsOther answer → load ≡ false
@@ -113,7 +130,10 @@ kind_of_one sheet word =
     (kind_past (bytes_eq word (codes "NET")) _ _ bye (not_both word (codes "NET") (codes "BYE") refl)
     (other_of_one_word Net sheet [] refl)
     (kind_past (bytes_eq word (codes "WEAKEST")) _ _ bye (not_both word (codes "WEAKEST") (codes "BYE") refl)
-    (other_weakest sheet []) (kind_bye bye sheet)))))))
+    (other_weakest sheet [])
+    (kind_past (bytes_eq word (codes "WITNESS")) _ _ bye (not_both word (codes "WITNESS") (codes "BYE") refl) tt
+    (kind_past (bytes_eq word (codes "CERTIFICATE")) _ _ bye (not_both word (codes "CERTIFICATE") (codes "BYE") refl)
+    (other_of_one_word Certificate sheet [] refl) (kind_bye bye sheet)))))))))
 
 -- Several words do neither.
 kind_of_more : (sheet : Option SheetView) (word second : List ℕ) (words : List (List ℕ))
@@ -127,7 +147,9 @@ kind_of_more sheet word second words =
     (neither (bytes_eq word (codes "RUN")) _ _ tt
     (neither (bytes_eq word (codes "NET")) _ _ tt
     (neither (bytes_eq word (codes "WEAKEST")) _ _ (other_weakest sheet (second ∷ words))
-    (neither (bytes_eq word (codes "BYE")) _ _ tt (refl, refl, refl))))))))
+    (neither (bytes_eq word (codes "WITNESS")) _ _ (other_about Witness ends (λ a b. refl))
+    (neither (bytes_eq word (codes "CERTIFICATE")) _ _ tt
+    (neither (bytes_eq word (codes "BYE")) _ _ tt (refl, refl, refl))))))))))
   where
     neither : (is : Bool) (answer rest : Result Request RequestFault) → IsOther answer
         → IsKind rest false false false → IsKind (if is then answer else rest) false false false

@@ -5,7 +5,7 @@ use Rattle.std.specs.List.{concat}
 use Rattle.std.specs.declared.option.Option.{Option}
 use Rattle.cut_model.specs.Net.{Net}
 use Rattle.network_text.specs.Sheets.{SheetView}
-use Rattle.network_text.specs.Writing.{link_text, router_text, sheet_text}
+use Rattle.network_text.specs.Writing.{sheet_lines, sheet_text, text_lines}
 
 -- A network was accepted: its numbers of routers and links.
 unfoldable pub loaded_text : ℕ → Net → List ℕ
@@ -34,17 +34,9 @@ abbrev pub head_text : ℕ → List ℕ → ℕ → List ℕ
 head_text version word lines =
     concat (codes "@" ∷ decimal version ∷ codes " " ∷ word ∷ codes " " ∷ decimal lines ∷ codes "\n" ∷ [])
 
--- The lines of a sheet as a network text: one for each router and each link, and END.
-abbrev pub sheet_lines : SheetView → ℕ
-sheet_lines sheet = sheet.net.routers + length sheet.net.links + 1
-
 -- The network, as a text that loads it again.
 unfoldable pub net_text : ℕ → SheetView → List ℕ
 net_text version sheet = head_text version (codes "NET") (sheet_lines sheet) ++ sheet_text sheet
-
--- The lines of a sheet as a network text.
-abbrev pub text_lines : SheetView → List (List ℕ)
-text_lines sheet = map router_text sheet.names ++ (map (link_text sheet.names) sheet.net.links ++ codes "END\n" ∷ [])
 
 -- The lines of the reply that tells a network.
 unfoldable pub net_lines : ℕ → SheetView → List (List ℕ)

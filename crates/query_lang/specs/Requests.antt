@@ -9,7 +9,7 @@ use Rattle.text_forms.specs.Words.{line_words, is_remark}
 use Rattle.network_text.specs.Sheets.{SheetView, number_of}
 use Rattle.query_lang.specs.declared.request.Request.{Request}
 use Rattle.query_lang.specs.declared.request.Request.TheVariants.{Nothing, Load, Cut, Path, Tree, Run, Net}
-use Rattle.query_lang.specs.declared.request.Request.TheVariants.{Weakest, Bye}
+use Rattle.query_lang.specs.declared.request.Request.TheVariants.{Weakest, Witness, Certificate, Bye}
 use Rattle.query_lang.specs.declared.request.RequestFault.{RequestFault}
 use Rattle.query_lang.specs.declared.request.RequestFault.TheVariants.{UnknownWord, LineTooLong, WrongCount}
 use Rattle.query_lang.specs.declared.request.RequestFault.TheVariants.{UnknownRouter, SameRouter, NoNetwork}
@@ -33,6 +33,13 @@ needs_record Load = false
 needs_record Bye = false
 needs_record request = true
 
+-- Whether a record alone settles the text of the reply. It leaves open which flows of a width are told, so the requests
+-- for flows aren't among these.
+abbrev pub is_report : Request → Bool
+is_report (Witness a b) = false
+is_report Certificate = false
+is_report request = needs_record request
+
 -- A request of one word, by the words behind it: one that needs a record is refused where there is none.
 abbrev pub of_one_word : Request → Option SheetView → List (List ℕ) → Result Request RequestFault
 of_one_word request sheet (word ∷ words) = Err WrongCount
@@ -50,7 +57,7 @@ abbrev pub ends_named : Option SheetView → List ℕ → List ℕ → Result (�
 ends_named None first second = Err NoNetwork
 ends_named (Some sheet) first second = ends_between (number_of sheet.names first) (number_of sheet.names second)
 
--- The words behind `CUT` and `PATH` are two names.
+-- The words behind `CUT`, `PATH` and `WITNESS` are two names.
 abbrev pub ends_of : Option SheetView → List (List ℕ) → Result (ℕ × ℕ) RequestFault
 ends_of sheet (first ∷ second ∷ []) = ends_named sheet first second
 ends_of sheet _ = Err WrongCount
@@ -76,6 +83,8 @@ words_ask sheet (word ∷ words) =
     else if bytes_eq word (codes "RUN") then of_one_word Run sheet words
     else if bytes_eq word (codes "NET") then of_one_word Net sheet words
     else if bytes_eq word (codes "WEAKEST") then weakest_of sheet words
+    else if bytes_eq word (codes "WITNESS") then about Witness (ends_of sheet words)
+    else if bytes_eq word (codes "CERTIFICATE") then of_one_word Certificate sheet words
     else if bytes_eq word (codes "BYE") then of_one_word Bye sheet words
     else Err UnknownWord
 
@@ -96,11 +105,12 @@ abbrev pub HasEnds : Option SheetView → ℕ → ℕ → Type 0
 HasEnds None a b = ⊥
 HasEnds (Some sheet) a b = AreEnds sheet a b
 
--- A request fits the network that there is: one that needs a record has one, CUT and PATH tell two different terminals
--- of it, and WEAKEST is asked where there are two terminals or more.
+-- A request fits the network that there is: one that needs a record has one, CUT, PATH and WITNESS tell two different
+-- terminals of it, and WEAKEST is asked where there are two terminals or more.
 abbrev pub IsOf : Option SheetView → Request → Type 0
 IsOf None request = IsFalse (needs_record request)
 IsOf (Some sheet) (Cut a b) = AreEnds sheet a b
 IsOf (Some sheet) (Path a b) = AreEnds sheet a b
+IsOf (Some sheet) (Witness a b) = AreEnds sheet a b
 IsOf (Some sheet) Weakest = 2 ≤ terminal_count sheet.net
 IsOf (Some sheet) request = Unit {0}

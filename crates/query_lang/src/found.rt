@@ -6,16 +6,17 @@ ghost use Rattle.query_lang.specs.Edges.{IsPassed};
 ghost use Rattle.query_lang.specs.Found.{IsFound, found_lines};
 ghost use Rattle.query_lang.specs.Replies.{cut_text};
 ghost use Rattle.query_lang.specs.Reports.{IsCutReport, IsPathReport, IsWeakestReport, TellsReport};
-ghost use Rattle.query_lang.specs.Requests.{AreEnds, IsOf, needs_record};
+ghost use Rattle.query_lang.specs.Requests.{AreEnds, IsOf, is_report};
 ghost use Rattle.query_lang.specs.Trees.{path_text};
 ghost use Rattle.wires.specs.Puts.{Puts};
 
 use crate::Request;
 use crate::cuts::write_cut;
-use crate::nets::{sheet_line_count, write_net_line};
+use crate::nets::write_net_line;
 use crate::subject::Subject;
 use crate::trees::{PassedEdges, write_path_line, write_run_line, write_tree_line};
 use cut_model::{MOST_ROUTERS, Side};
+use network_text::sheet_line_count;
 use path_minimum::{PathRoom, least_on_path_uncounted, path, side_holding, weakest};
 use tree_state::side_below;
 use wires::{Failed, Sink};
@@ -96,7 +97,7 @@ pub(crate) fn find_reply<'a>(
     request: &Request,
     room: &'a mut PathRoom,
 ) -> Found<'a>
-    requires needs { IsTrue (needs_record request.now) }
+    requires report { IsTrue (is_report request.now) }
     requires of { IsOf (Some subject.now.sheet.now) request.now }
     ensures found { IsFound subject.now.sheet.now result }
     ensures sheet { IsSheet subject.now.sheet.now.names subject.now.sheet.now.net }
@@ -111,7 +112,11 @@ pub(crate) fn find_reply<'a>(
         Request::Run => Found::Run,
         Request::Net => Found::Net,
         Request::Weakest => Found::Weakest(find_weakest(subject)),
-        Request::Nothing | Request::Load | Request::Bye => unreachable!(),
+        Request::Nothing
+        | Request::Load
+        | Request::Witness(_, _)
+        | Request::Certificate
+        | Request::Bye => unreachable!(),
     }
 }
 

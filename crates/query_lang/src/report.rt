@@ -2,7 +2,7 @@
 ghost use Rattle.std.specs.Prelude.{◌≡◌, IsTrue, Some};
 ghost use Rattle.path_minimum.specs.Ladders.{IsLadderOf};
 ghost use Rattle.query_lang.specs.Reports.{TellsReport};
-ghost use Rattle.query_lang.specs.Requests.{IsOf, needs_record};
+ghost use Rattle.query_lang.specs.Requests.{IsOf, is_report};
 
 use crate::Request;
 use crate::found::{Found, find_reply, line_count, write_found_line};
@@ -47,7 +47,7 @@ impl<'a> Report<'a> {
         request: &Request,
         room: &'a mut PathRoom,
     ) -> Report<'a>
-        requires needs { IsTrue (needs_record request.now) }
+        requires report { IsTrue (is_report request.now) }
         requires of { IsOf (Some sheet.now) request.now }
         requires same { finished.now.tree.net ≡ sheet.now.net }
         requires ladder { IsLadderOf finished.now.tree ladder.now }
@@ -86,6 +86,8 @@ impl<'a> ReplyLines for Report<'a> {
     ghost line = { λ lines. KnownLine (Unit {0}) lines };
 
     ghost places = { λ lines. length lines };
+
+    ghost fits = { λ _ _ _. Unit {0} };
 
     fn count(&self) -> u64 {
         line_count(&self.subject, &self.found)

@@ -2,7 +2,7 @@
 ghost use Rattle.std.specs.Prelude.{◌≡◌, IsTrue, Some};
 ghost use Rattle.path_minimum.specs.Ladders.{IsLadderOf};
 ghost use Rattle.query_lang.specs.Reports.{IsReport, PutsLineOf, PutsSome};
-ghost use Rattle.query_lang.specs.Requests.{IsOf, needs_record};
+ghost use Rattle.query_lang.specs.Requests.{IsOf, is_report};
 
 use crate::Request;
 use crate::report::Report;
@@ -30,7 +30,7 @@ pub fn write_reply<K: Sink>(
     room: &mut PathRoom,
     sink: &mut K,
 ) -> Result<(), Failed>
-    requires needs { IsTrue (needs_record request.now) }
+    requires report { IsTrue (is_report request.now) }
     requires of { IsOf (Some sheet.now) request.now }
     requires same { finished.now.tree.net ≡ sheet.now.net }
     requires ladder { IsLadderOf finished.now.tree ladder.now }
@@ -59,7 +59,7 @@ pub fn write_reply_line<K: Sink>(
     room: &mut PathRoom,
     sink: &mut K,
 ) -> Result<bool, Failed>
-    requires needs { IsTrue (needs_record request.now) }
+    requires report { IsTrue (is_report request.now) }
     requires of { IsOf (Some sheet.now) request.now }
     requires same { finished.now.tree.net ≡ sheet.now.net }
     requires ladder { IsLadderOf finished.now.tree ladder.now }

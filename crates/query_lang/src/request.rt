@@ -32,6 +32,10 @@ pub enum Request {
     /// The weakest edge of the tree, and so the least cut of the whole network, which has two terminals
     /// or more.
     Weakest,
+    /// A flow for each edge of the path between two such routers, of the edge's width.
+    Witness(u32, u32),
+    /// The certificate: the network, its tree, and a flow for each edge of it.
+    Certificate,
     /// The end of the session.
     Bye,
 }
@@ -49,7 +53,9 @@ impl Request {
             | Request::Tree
             | Request::Run
             | Request::Net
-            | Request::Weakest => true,
+            | Request::Weakest
+            | Request::Witness(_, _)
+            | Request::Certificate => true,
         }
     }
 }
@@ -145,6 +151,11 @@ fn parse_words(text: &[u8], sheet: Option<&Sheet>) -> Result<Request, RequestFau
         parse_one_word(Request::Net, behind, sheet)
     } else if word == b"WEAKEST".as_slice() {
         parse_weakest(behind, sheet)
+    } else if word == b"WITNESS".as_slice() {
+        let (a, b) = parse_ends(behind, sheet)?;
+        Ok(Request::Witness(a, b))
+    } else if word == b"CERTIFICATE".as_slice() {
+        parse_one_word(Request::Certificate, behind, sheet)
     } else if word == b"BYE".as_slice() {
         parse_one_word(Request::Bye, behind, sheet)
     } else {
@@ -183,7 +194,7 @@ fn parse_weakest(text: &[u8], sheet: Option<&Sheet>) -> Result<Request, RequestF
     Ok(request)
 }
 
-/// The two routers that the words behind `CUT` or `PATH` name.
+/// The two routers that the words behind `CUT`, `PATH` or `WITNESS` name.
 fn parse_ends(text: &[u8], sheet: Option<&Sheet>) -> Result<(u32, u32), RequestFault>
     ensures value { result ≡ ends_of (option_copied sheet.entry) (words_of text.now) }
     ensures of { IfOk result (λ ends. HasEnds (option_copied sheet.entry) ends.0 ends.1) }

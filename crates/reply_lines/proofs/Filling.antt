@@ -1,6 +1,6 @@
 -- One more line in a run, and behind the lines that were put.
 use Rattle.std.proofs.Common.{◌≡◌, ℕ, ◌+◌, ◌-◌, ◌<◌, ◌≤◌, List, [], ◌++◌, length, arith, Result, Ok, Err, Some}
-use Rattle.std.proofs.Common.{IsTrue, nat_le}
+use Rattle.std.proofs.Common.{IsTrue, nat_le, refl}
 use Rattle.std.specs.Prelude.{OnOk}
 use Rattle.std.specs.Result.{IsErr}
 use Rattle.std.proofs.lemmas.Bool.{le-leb, leb-true}
@@ -45,6 +45,8 @@ puts_stopped Line n place first carry carry2 low before put result failed =
     let both = puts_next Line (spot n 0 first) n place carry carry2 low before put in
     record {
       last = spot n (place + 1) carry2;
+      within = omega (arith, low);
+      left = refl;
       puts = record { text = both.text; leads = both.leads; puts = puts_err both.text result failed both.puts };
       all = none_asked _ result failed;
     }

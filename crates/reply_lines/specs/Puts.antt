@@ -1,5 +1,5 @@
 -- What a writer of lines promises.
-use Rattle.std.specs.Prelude.{◌≡◌, ℕ, ◌≤◌, List, length, Result, OnOk}
+use Rattle.std.specs.Prelude.{◌≡◌, ℕ, ◌-◌, ◌≤◌, List, length, Result, OnOk}
 use Rattle.reply_lines.specs.Tails.{Leads, Spot, spot}
 use Rattle.reply_lines.specs.declared.run.TheConstants.{MOST_REPLY_LINE_BYTES}
 use Rattle.wires.specs.Puts.{Puts}
@@ -23,9 +23,11 @@ pub record PutsTo {S E C : Type 0} (g : Ghosts S) (old new : S) (result : Result
   pub puts : Puts g old new result text
 
 -- Lines of a reply of n lines were put from the first one on: all of them, or at a failure those up to the one that
--- failed, and of these a front.
+-- failed, and of these a front. Where they end is a spot of the reply, from which the others may follow.
 pub record PutsLines {S E C : Type 0} (g : Ghosts S) (old new : S) (result : Result (Unit {0}) E)
     (Line : ℕ → C → List ℕ → C → Type 0) (n : ℕ) (carry : C) : Type 0 where
   pub last : Spot C
+  pub within : last.place ≤ n
+  pub left : last.left ≡ n - last.place
   pub puts : PutsTo g old new result Line (spot n 0 carry) last
   pub all : OnOk result (last.left ≡ 0)

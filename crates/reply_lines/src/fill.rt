@@ -15,6 +15,8 @@ use wires::{Failed, Sink};
 /// Of a reply of three short lines, `fill_run(&mut lines, 1, &mut run)` gives 3, and the run holds the last two.
 pub fn fill_run<L: ReplyLines>(lines: &mut L, from: u64, run: &mut LineRun) -> u64
     requires within { from ≤ L.places (L.told lines.old) }
+    requires fits { L.fits (L.told lines.old) from (L.carry lines.old) }
+    ensures fits { L.fits (L.told lines.old) result (L.carry lines.new) }
     ensures told { L.told lines.new ≡ L.told lines.old }
     ensures leads { Leads L.Carry (L.line (L.told lines.old))
         (spot (L.places (L.told lines.old)) from (L.carry lines.old)) run.new.rest
@@ -39,6 +41,7 @@ pub fn fill_run<L: ReplyLines>(lines: &mut L, from: u64, run: &mut LineRun) -> u
 /// # Errors
 /// [`Failed`] where a put failed. The lines before that one were written, and a front of it.
 pub fn write_lines<L: ReplyLines, K: Sink>(lines: &mut L, sink: &mut K) -> Result<(), Failed>
+    requires fits { L.fits (L.told lines.old) 0 (L.carry lines.old) }
     ensures told { L.told lines.new ≡ L.told lines.old }
     ensures puts { PutsLines K.Sink sink.old sink.new result (L.line (L.told lines.old))
         (L.places (L.told lines.old)) (L.carry lines.old) }

@@ -24,6 +24,8 @@ impl ReplyLines for Marks {
 
     ghost places = { λ n. n };
 
+    ghost fits = { λ _ _ _. Unit {0} };
+
     fn count(&self) -> u64 {
         self.lines
     }

@@ -12,6 +12,9 @@ unwrap-requires g c =
     let room = c.loop-place.invariant.room in
     put.puts.sure 0 (le-leb _ _ (omega (arith, few, put.short, room, c.if-rest-lt-RUN_BYTES.true)))
 
+pub write_line-requires-clause-fits : goal.write_line-requires-clause-fits
+write_line-requires-clause-fits g c = rw c.loop-place.invariant.told c.loop-place.invariant.fits
+
 pub loop-place-preserved : goal.loop-place-preserved
 loop-place-preserved g c =
     let ghosts = g.L.ReplyLines in
@@ -38,6 +41,7 @@ loop-place-preserved g c =
           (Leads-trans ghosts.Carry line from mid last c.loop-place.run.rest put.line c.loop-place.invariant.leads one);
       later = omega (arith, c.loop-place.invariant.later);
       within = omega (arith, low);
+      fits = rw c.loop-place.invariant.told at c.write_line.ensures.fits;
       none = λ before. absurd (omega (arith, before, c.loop-place.invariant.later));
       few = omega (arith, few, size, put.short, c.if-rest-lt-RUN_BYTES.true);
       room = omega (arith, size, room, c.loop-place.invariant.room);

@@ -15,6 +15,7 @@ invariant-loop-place g l =
           (spot n l.place (ghosts.carry l.lines));
       later : l.fn.from ≤ l.place;
       within : l.place ≤ n;
+      fits : ghosts.fits what l.place (ghosts.carry l.lines);
       none : l.place ≤ l.fn.from → length l.run.rest ≤ 0;
       few : length l.run.rest ≤ RUN_BYTES + MOST_REPLY_LINE_BYTES;
       room : RUN_BYTES + MOST_REPLY_LINE_BYTES ≤ length l.run.rest + l.run.room;

@@ -13,6 +13,7 @@ invariant-loop-place g l =
     record {
       told : ghosts.told l.lines ≡ what;
       within : l.place ≤ n;
+      fits : ghosts.fits what l.place (ghosts.carry l.lines);
       puts : PutsTo {E = Failed} g.K.Sink l.fn.sink l.sink (Ok tt) (ghosts.line what)
           (spot n 0 (ghosts.carry l.fn.lines)) (spot n l.place (ghosts.carry l.lines));
     }
