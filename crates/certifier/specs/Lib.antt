@@ -1,0 +1,15 @@
+pub mod Accepting
+pub mod Blocks
+pub mod Certificates
+pub mod Checks
+pub mod Forms
+pub mod Judging
+pub mod Kept
+pub mod Laws
+pub mod Lines
+pub mod Rooms
+pub mod Signs
+pub mod Stages
+pub mod Sums
+pub mod Trees
+pub mod Ways
