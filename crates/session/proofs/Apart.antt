@@ -12,7 +12,8 @@ use Rattle.session.proofs.Stretching.{Parts-none}
 use Rattle.session.specs.Answers.{Answers, IsTold, LoadStep, Step}
 use Rattle.session.specs.Modes.{Gives}
 use Rattle.session.specs.Points.{Point, Stretch}
-use Rattle.session.specs.Reporting.{Carried, IsHeld, ReportLine}
+use Rattle.certifier.specs.Blocks.{Carried}
+use Rattle.session.specs.Reporting.{IsHeld, ReportLine}
 use Rattle.session.specs.Shelved.{IsLook, Shelved}
 use Rattle.session.specs.declared.desk.Asked.{Asked}
 use Rattle.text_forms.specs.Items.{Item, Ask, Load, Bye}

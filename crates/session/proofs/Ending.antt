@@ -6,7 +6,8 @@ use Rattle.session.proofs.Concluding.{breaks, ends, moment_of}
 use Rattle.session.proofs.Reporting.{held_owed, held_run}
 use Rattle.session.specs.Goings.{IsFresh}
 use Rattle.session.specs.Points.{Parts, Point, Rest}
-use Rattle.session.specs.Reporting.{Carried, IsHeld, ReportLine}
+use Rattle.certifier.specs.Blocks.{Carried}
+use Rattle.session.specs.Reporting.{IsHeld, ReportLine}
 use Rattle.session.specs.Sessions.{EndsAs, IsComplete, IsCutShort, IsOver, IsTooLong}
 use Rattle.session.specs.Turns.{Here, TurnGoes, point_at}
 use Rattle.session.specs.declared.desk.Asked.{Asked}
@@ -30,7 +31,8 @@ complete a b bytes items fresh parts (inl over) = of_case (parts.bye over)
 -- the work of turns from a fresh start to an end is a session that ends so
 pub turn_ends : (end : SessionEnd) (alone : Bool) (a : Point Asked Carried) (here : Here) → IsFresh a
     → length a.shelf.seen ≤ MOST_RECORDS → here.kept.reader.taken ≤ MOST_BYTES
-    → IsHeld here.now.shelf.seen here.kept.work → TurnGoes (Ended end) alone a here → EndsAs end alone (moment_of a) here.now
+    → IsHeld here.now.shelf.seen here.kept.work
+    → TurnGoes (Ended end) alone a here → EndsAs end alone (moment_of a) here.now
 turn_ends Done alone a here fresh few most held w =
     let b = point_at here w.open_text w.bytes in
     ends ReportLine alone a b fresh w.why.0.idle w.why.0.none (IsComplete b.wire) w.on most

@@ -14,7 +14,8 @@ use Rattle.query_lang.specs.Replies.{loaded_text, refused_text}
 use Rattle.session.specs.Answers.{IsTextRefusal, LoadStep}
 use Rattle.session.specs.Modes.{Gives, Loads, gives, next_text}
 use Rattle.session.specs.Points.{IsIdle, Work}
-use Rattle.session.specs.Reporting.{Carried, IsHeld}
+use Rattle.certifier.specs.Blocks.{Carried}
+use Rattle.session.specs.Reporting.{IsHeld}
 use Rattle.session.specs.Shelved.{IsLook, Shelved}
 use Rattle.session.specs.Taking.{HasRead, HasOpen, IsTaken, Owing}
 use Rattle.session.specs.declared.desk.Asked.{Asked}

@@ -1,5 +1,6 @@
 -- How a session goes on by the steps of a turn.
-use Rattle.std.proofs.Common.{◌≡◌, ℕ, ◌≤◌, ◌<◌, ◌+◌, List, [], ◌∷◌, ◌++◌, Bool, true, false, length, refl, sym, ap, ◌∙◌}
+use Rattle.std.proofs.Common.{◌≡◌, ℕ, ◌≤◌, ◌<◌, ◌+◌, List, [], ◌∷◌, ◌++◌}
+use Rattle.std.proofs.Common.{Bool, true, false, length, refl, sym, ap, ◌∙◌}
 use Rattle.std.proofs.Common.{◌⊎◌, inl, inr, subst, arith, None, Some, ◌||◌}
 use Rattle.std.specs.Io.KnownBytes.{Consumes}
 use Rattle.std.specs.declared.option.Option.{Option}
@@ -14,7 +15,8 @@ use Rattle.session.proofs.Stretching.{begun, read, waited}
 use Rattle.session.specs.Goings.{Going}
 use Rattle.session.specs.Modes.{IsByeLine, IsQuiet, gives, next_text}
 use Rattle.session.specs.Points.{IsIdle, Parts, Point, Rest, Stretch, Work, items_after}
-use Rattle.session.specs.Reporting.{Carried, ReportLine}
+use Rattle.certifier.specs.Blocks.{Carried}
+use Rattle.session.specs.Reporting.{ReportLine}
 use Rattle.session.specs.Sessions.{IsOver}
 use Rattle.session.specs.Shelved.{Shelved}
 use Rattle.session.specs.Steps.{Gone, IsClosed, IsEmpty, IsMet, IsPart, IsUnmet, ReadGoes, here_at, with_work}
@@ -445,7 +447,10 @@ module _ (alone : Bool) (from : Point Asked Carried) (here : Here) (idle : IsIdl
   pub fault_stops : here.kept.over ≡ false → here.kept.reader.taken < MOST_BYTES → Went IsUnmet alone from here
       → Went (StopsBy (Ended ReadFault)) alone from here
   fault_stops on more w = went_with IsUnmet (StopsBy (Ended ReadFault)) alone from here w (record {
-    through = record { idle = idle; none = open_none (point_at here w.open_text w.bytes).rest here.now.wire.ended on w.why.unmet w.why.clean };
+    through = record {
+      idle = idle;
+      none = open_none (point_at here w.open_text w.bytes).rest here.now.wire.ended on w.why.unmet w.why.clean;
+    };
     on = on;
     unmet = w.why.unmet;
     more = more;

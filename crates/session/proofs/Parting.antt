@@ -1,5 +1,6 @@
 -- Which items a line, and the end of the input, part off.
-use Rattle.std.proofs.Common.{◌≡◌, ℕ, List, [], ◌∷◌, ◌++◌, None, Some, Bool, true, false, refl, sym, ap, ◌∙◌, append_assoc}
+use Rattle.std.proofs.Common.{◌≡◌, ℕ, List, [], ◌∷◌, ◌++◌, None, Some, Bool}
+use Rattle.std.proofs.Common.{true, false, refl, sym, ap, ◌∙◌, append_assoc}
 use Rattle.std.proofs.Common.{if◌then◌else◌, inr, length, ◌≤◌, arith}
 use Rattle.std.proofs.lemmas.List.{append-nil}
 use Rattle.std.specs.declared.option.Option.{Option}

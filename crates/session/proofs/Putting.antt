@@ -7,7 +7,8 @@ use Rattle.std.specs.declared.option.Option.{Option}
 use Rattle.reply_lines.specs.Tails.{Leads, Spot}
 use Rattle.session.proofs.Stretching.{Stretch-join, filled, put}
 use Rattle.session.specs.Points.{Point, Rest, Stretch, Work}
-use Rattle.session.specs.Reporting.{Carried, ReportLine}
+use Rattle.certifier.specs.Blocks.{Carried}
+use Rattle.session.specs.Reporting.{ReportLine}
 use Rattle.session.specs.Shelved.{Shelved}
 use Rattle.session.specs.Turns.{TurnCounts, is_owed}
 use Rattle.session.specs.Writing.{PutBreaks, PutGoes, Written, point_of}

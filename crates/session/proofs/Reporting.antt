@@ -1,78 +1,77 @@
--- The texts that are told by the lines of a report are that report, and its record stays where it is.
-use Rattle.std.proofs.Common.{◌≡◌, ℕ, zero, suc, ◌+◌, List, [], ◌∷◌, ◌++◌, length, refl, sym, ap, ◌∙◌}
-use Rattle.std.proofs.Common.{arith, subst, None, Some, Ok, drop}
-use Rattle.std.specs.List.{concat}
-use Rattle.std.specs.Prelude.{slice_get, slice_index_or}
+-- The texts that are told by the lines of a reply are that reply, and its record stays where it is.
+use Rattle.std.proofs.Common.{◌≡◌, ℕ, zero, suc, List, [], ◌∷◌, ◌++◌, refl, sym, ap, ◌∙◌}
+use Rattle.std.proofs.Common.{arith, subst, Some, Ok}
+use Rattle.std.specs.Prelude.{slice_get}
 use Rattle.std.specs.declared.option.Option.{Option}
-use Rattle.query_lang.proofs.OneReport.{report_once}
-use Rattle.query_lang.specs.declared.request.Request.{Request}
-use Rattle.reply_lines.proofs.Known.{Tail-map, known_only, known_tail}
-use Rattle.reply_lines.specs.Tails.{KnownLine, Leads, Spot, Tail, lines_in}
+use Rattle.certifier.specs.Blocks.{Carried, Layout}
+use Rattle.reply_lines.proofs.Known.{Tail-map}
+use Rattle.reply_lines.specs.Tails.{Leads, Spot, Tail}
+use Rattle.session.proofs.Following.{IsTellable, some_text}
+use Rattle.session.proofs.Laying.{lays_answers, lays_once}
+use Rattle.session.proofs.LowerEnds.{lays_lower}
 use Rattle.session.specs.Answers.{RepliesTo}
 use Rattle.session.specs.Points.{Owed, Work}
-use Rattle.session.specs.Reporting.{Carried, IsHeld, IsReporting, ReportLine}
+use Rattle.session.specs.Reporting.{IsHeld, LaysOut, LineIn, ReportLine, size_in}
 use Rattle.session.specs.declared.desk.Asked.{Asked}
-use Rattle.tree_versions.specs.Records.{RecordView, Grows, record_at, tree_of}
+use Rattle.tree_versions.specs.Records.{RecordView, Grows, record_at}
 
--- a record has one report for a request
-tells_once : (seen : Option RecordView) (version : ℕ) (request : Request) (text other : List ℕ)
-    → RepliesTo seen version (Ok request) text → RepliesTo seen version (Ok request) other → other ≡ text
-tells_once None version request text other p q = absurd p
-tells_once (Some seen) version request text other p q =
-    report_once version seen.sheet (tree_of seen) request other text q p
+-- one record stands at a place
+pub same_record : (at : Option RecordView) (seen other : RecordView) → at ≡ Some seen → at ≡ Some other → seen ≡ other
+same_record at seen other p q = let e : Some seen ≡ Some other = sym p ∙ q in cc
 
-module _ (records : List RecordView) (asked : Asked) (text : List ℕ)
-    (tells : RepliesTo (record_at records asked.version) asked.version (Ok asked.request) text) where
-  -- a line of the report is the line of that place of its text
-  line_known : (place : ℕ) (carry : Carried) (line : List ℕ) (carry2 : Carried)
-      → ReportLine records asked place carry line carry2 → KnownLine Carried (lines_in text) place carry line carry2
-  line_known place carry line carry2 is = record {
-    at = is.at ∙ ap (λ (t : List ℕ). slice_index_or (lines_in t) place [])
-        (tells_once (record_at records asked.version) asked.version asked.request text is.text tells is.tells);
-    kept = refl;
-  }
+-- The record of what was asked, and what is laid out of it.
+pub record IsLaid (records : List RecordView) (asked : Asked) : Type 0 where
+  pub seen : RecordView
+  pub there : record_at records asked.version ≡ Some seen
+  pub layout : Layout
+  pub lays : LaysOut seen asked.version asked.request layout
+
+module _ (records : List RecordView) (asked : Asked) (laid : IsLaid records asked) where
+  -- a line of the reply is a line of what is laid out for it
+  line_in : (place : ℕ) (carry : Carried) (line : List ℕ) (carry2 : Carried)
+      → ReportLine records asked place carry line carry2 → LineIn laid.seen laid.layout place carry line carry2
+  line_in place carry line carry2 is =
+      let same : is.seen ≡ laid.seen =
+      same_record (record_at records asked.version) is.seen laid.seen is.there laid.there in
+      let lays2 = subst (λ (r : RecordView). LaysOut r asked.version asked.request is.layout) same is.lays in
+      let at2 = subst (λ (r : RecordView). LineIn r is.layout place carry line carry2) same is.at in
+      subst (λ (l : Layout). LineIn laid.seen l place carry line carry2)
+      (lays_once laid.seen asked.version asked.request is.layout laid.layout lays2 laid.lays) at2
 
   -- and the other way round
   line_told : (place : ℕ) (carry : Carried) (line : List ℕ) (carry2 : Carried)
-      → KnownLine Carried (lines_in text) place carry line carry2 → ReportLine records asked place carry line carry2
-  line_told place carry line carry2 is = record { text = text; tells = tells; at = is.at }
+      → LineIn laid.seen laid.layout place carry line carry2 → ReportLine records asked place carry line carry2
+  line_told place carry line carry2 is =
+      record { seen = laid.seen; there = laid.there; layout = laid.layout; lays = laid.lays; at = is }
 
-  -- a text that leads on in the lines of the report's text leads on in the report
-  pub report_leads : (a b : Spot Carried) (t : List ℕ) → Leads Carried (KnownLine Carried (lines_in text)) a t b
+  -- what follows in what is laid out follows in the reply
+  pub tail_told : (left place : ℕ) (carry : Carried) (text : List ℕ)
+      → Tail Carried (LineIn laid.seen laid.layout) left place carry text
+      → Tail Carried (ReportLine records asked) left place carry text
+  tail_told left place carry text t =
+      Tail-map Carried (LineIn laid.seen laid.layout) (ReportLine records asked) line_told left place carry text t
+
+  -- and the other way round
+  tail_in : (left place : ℕ) (carry : Carried) (text : List ℕ)
+      → Tail Carried (ReportLine records asked) left place carry text
+      → Tail Carried (LineIn laid.seen laid.layout) left place carry text
+  tail_in left place carry text t =
+      Tail-map Carried (ReportLine records asked) (LineIn laid.seen laid.layout) line_in left place carry text t
+
+  -- a text that leads on in what is laid out leads on in the reply
+  pub report_leads : (a b : Spot Carried) (t : List ℕ) → Leads Carried (LineIn laid.seen laid.layout) a t b
       → Leads Carried (ReportLine records asked) a t b
   report_leads a b t leads rest on =
-      Tail-map Carried (KnownLine Carried (lines_in text)) (ReportLine records asked) line_told a.left a.place a.carry
-      (t ++ rest) (leads rest (Tail-map Carried (ReportLine records asked) (KnownLine Carried (lines_in text))
-      line_known b.left b.place b.carry rest on))
+      tail_told a.left a.place a.carry (t ++ rest) (leads rest (tail_in b.left b.place b.carry rest on))
 
-  -- the texts that may follow from a place of the report on: what its text has from there on
-  pub report_rest : (left place : ℕ) (carry : Carried) (told : List ℕ) → place + left ≡ length (lines_in text)
-      → Tail Carried (ReportLine records asked) left place carry told → told ≡ concat (drop place (lines_in text))
-  report_rest left place carry told all t =
-      known_only Carried (lines_in text) left place carry told all
-      (Tail-map Carried (ReportLine records asked) (KnownLine Carried (lines_in text)) line_known left place carry told t)
-
-  -- and that does
-  pub report_follows : (left place : ℕ) (carry : Carried) → place + left ≡ length (lines_in text)
-      → Tail Carried (ReportLine records asked) left place carry (concat (drop place (lines_in text)))
-  report_follows left place carry all =
-      Tail-map Carried (KnownLine Carried (lines_in text)) (ReportLine records asked) line_told left place carry
-      (concat (drop place (lines_in text))) (known_tail Carried (lines_in text) left place carry all)
-
-  -- the lines of the report tell the report itself
-  pub report_tail : (told : List ℕ) → concat (lines_in text) ≡ text
-      → Tail Carried (ReportLine records asked) (length (lines_in text)) 0 tt told
+  -- all lines of the reply tell the reply
+  pub report_tail : (carry : Carried) (told : List ℕ)
+      → Tail Carried (ReportLine records asked) (size_in laid.seen laid.layout) 0 carry told
       → RepliesTo (record_at records asked.version) asked.version (Ok asked.request) told
-  report_tail told whole t =
-      subst (RepliesTo (record_at records asked.version) asked.version (Ok asked.request))
-      (sym (report_rest (length (lines_in text)) 0 tt told (omega arith) t ∙ whole)) tells
-
--- what the record in work tells
-held_tells : (records : List RecordView) (work : Work Asked Carried) (r : IsReporting records work)
-    → RepliesTo (record_at records work.reply.version) work.reply.version (Ok work.reply.request) r.text
-held_tells records work r =
-    subst (λ (seen : Option RecordView). RepliesTo seen work.reply.version (Ok work.reply.request) r.text) (sym r.there)
-    r.tells
+  report_tail carry told t =
+      subst (λ (r : Option RecordView). RepliesTo r asked.version (Ok asked.request) told) (sym laid.there)
+      (lays_answers laid.seen asked.version asked.request laid.layout told laid.lays
+      (record { carry = carry; is = tail_in (size_in laid.seen laid.layout) 0 carry told t }))
 
 -- a reply in work whose record is held may be written to its end
 pub held_owed : (records : List RecordView) (work : Work Asked Carried) → IsHeld records work
@@ -83,12 +82,15 @@ held_owed records work held = of_left work.at.left refl
     of_left zero e = (work.run ++ [], record { tail = []; is = rw e refl; joins = refl })
     of_left (suc left) e =
         let r = held (omega (arith, e)) in
-        let tail = concat (drop work.at.place (lines_in r.text)) in (
-          work.run ++ tail,
+        let lower = lays_lower r.seen r.sound work.reply.version work.reply.request r.layout r.of r.lays in
+        let can : IsTellable r.seen r.layout = record { sound = r.sound; lower = lower } in
+        let laid : IsLaid records work.reply =
+        record { seen = r.seen; there = r.there; layout = r.layout; lays = r.lays } in
+        let on = some_text r.seen r.layout can work.at.left work.at.place work.at.carry r.places r.fits in (
+          work.run ++ on.0,
           record {
-            tail = tail;
-            is = report_follows records work.reply r.text (held_tells records work r) work.at.left work.at.place
-                work.at.carry r.places;
+            tail = on.0;
+            is = tail_told records work.reply laid work.at.left work.at.place work.at.carry on.0 on.1;
             joins = refl;
           },
         )
@@ -113,10 +115,12 @@ pub IsHeld-grow : (records all : List RecordView) (work : Work Asked Carried) �
 IsHeld-grow records all work grows held some = let r = held some in record {
   seen = r.seen;
   there = record_at-there records all work.reply.version r.seen grows r.there;
+  sound = r.sound;
   of = r.of;
-  text = r.text;
-  tells = r.tells;
+  layout = r.layout;
+  lays = r.lays;
   places = r.places;
+  fits = r.fits;
 }
 
 -- so it is where bytes of the run were taken
@@ -125,11 +129,22 @@ pub held_run : (records : List RecordView) (work : Work Asked Carried) (run : Li
 held_run records work run held some = let r = held some in record {
   seen = r.seen;
   there = r.there;
+  sound = r.sound;
   of = r.of;
-  text = r.text;
-  tells = r.tells;
+  layout = r.layout;
+  lays = r.lays;
   places = r.places;
+  fits = r.fits;
 }
+
+-- and where its run alone changed
+pub held_same : (records : List RecordView) (old new : Work Asked Carried) → new.reply ≡ old.reply → new.at ≡ old.at
+    → IsHeld records old → IsHeld records new
+held_same records old new reply at held =
+    let same : new ≡ record old { run = new.run } =
+    ap (λ (r : Asked). record new { reply = r }) reply
+    ∙ ap (λ (s : Spot Carried). record { run = new.run; reply = old.reply; at = s }) at in
+    subst (λ (w : Work Asked Carried). IsHeld records w) (sym same) (held_run records old new.run held)
 
 -- what is owed over more records was owed before
 pub owed_before : (records all : List RecordView) (work : Work Asked Carried) (text : List ℕ) → Grows records all
@@ -146,11 +161,13 @@ owed_before records all work text grows held owed = record {
     of_left zero e t = t
     of_left (suc left) e t =
         let r = held (omega (arith, e)) in
-        let there = record_at-there records all work.reply.version r.seen grows r.there in
+        let later = record_at-there records all work.reply.version r.seen grows r.there in
         Tail-map Carried (ReportLine all work.reply) (ReportLine records work.reply)
         (λ place carry line carry2 is. record {
-          text = is.text;
-          tells = subst (λ (seen : Option RecordView). RepliesTo seen work.reply.version (Ok work.reply.request) is.text)
-              (there ∙ sym r.there) is.tells;
+          seen = is.seen;
+          there = r.there ∙ ap (λ (s : RecordView). Some s)
+              (same_record (record_at all work.reply.version) r.seen is.seen later is.there);
+          layout = is.layout;
+          lays = is.lays;
           at = is.at;
         }) (suc left) work.at.place work.at.carry owed.tail t

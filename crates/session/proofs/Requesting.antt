@@ -7,21 +7,23 @@ use Rattle.query_lang.specs.Requests.{fault_number, request_of}
 use Rattle.query_lang.specs.declared.request.Request.{Request}
 use Rattle.query_lang.specs.declared.request.Request.TheVariants.{Nothing, Load, Bye}
 use Rattle.query_lang.specs.declared.request.RequestFault.{RequestFault}
-use Rattle.query_lang.proofs.RequestKinds.{IsOther, answer_kind, other_asks, report-needs}
+use Rattle.query_lang.proofs.RequestKinds.{IsOther, answer_kind, other_asks}
 use Rattle.session.specs.Answers.{IsReply, KeepsVersion, RepliesTo, Step, sheet_in}
 use Rattle.session.specs.Modes.{next_text, gives, Gives}
 use Rattle.session.specs.Points.{IsIdle, Work}
-use Rattle.session.specs.Reporting.{Carried, Reported}
+use Rattle.certifier.specs.Blocks.{Carried}
+use Rattle.session.specs.Reporting.{Reported}
 use Rattle.session.specs.Shelved.{IsLook, Shelved}
 use Rattle.session.specs.Taking.{HasOpen, IsByeTaken, IsTaken, Owing}
 use Rattle.session.specs.declared.desk.Asked.{Asked}
 use Rattle.session.specs.declared.intake.Intake.{Intake}
 use Rattle.session.proofs.Answering.{Gives-none, Gives-one, look_leads}
+use Rattle.session.proofs.Laying.{lays_needs}
 use Rattle.session.proofs.Loading.{idle_owing, run_owing}
 use Rattle.session.proofs.Telling.{begun_held, begun_tells}
 use Rattle.text_forms.specs.Items.{Item, Ask, Bye as ByeItem}
 use Rattle.text_forms.specs.Words.{is_passed}
-use Rattle.tree_versions.specs.Records.{RecordView, record_at, tree_of}
+use Rattle.tree_versions.specs.Records.{RecordView, record_at}
 
 -- the last record that is seen
 abbrev pub last_of : Shelved → Option RecordView
@@ -74,7 +76,7 @@ module _ {alone : Bool} {old new : Shelved} (look : IsLook alone old new) where
       → IsTaken alone old new None intake line work
   reported_taken line {intake} {work} request left_open is begun =
       ask_taken line (subst IsOther is
-      (report-needs (length new.seen) begun.made.sheet (tree_of begun.made) request begun.fills.text begun.fills.tells))
+      (lays_needs begun.made (length new.seen) request begun.tells.layout begun.tells.lays))
       left_open (record {
         grows = look.looks.grows;
         gives = λ text owed. ask_gives line text

@@ -1,14 +1,15 @@
 -- A reply of one line fits into an empty run.
-use Rattle.std.proofs.Common.{◌≡◌, ℕ, ◌+◌, ◌<◌, ◌≤◌, List, ◌++◌, true, IsTrue, nat_le, length, arith, ap}
+use Rattle.std.proofs.Common.{◌≡◌, ℕ, ◌+◌, ◌<◌, ◌≤◌, List, [], ◌++◌, true, IsTrue, nat_le, length, arith, ap}
 use Rattle.std.proofs.Common.{length-append, Some, Ok, Result, ◌∙◌}
 use Rattle.std.proofs.lemmas.Bool.{le-leb, lt-ltb}
 use Rattle.std.specs.declared.option.Option.{Option}
-use Rattle.query_lang.specs.Replies.{refused_text}
+use Rattle.query_lang.proofs.Lengths.{length-short_head}
+use Rattle.query_lang.specs.Replies.{head_text, refused_text}
 use Rattle.reply_lines.specs.Runs.{RunView, empty_run}
 use Rattle.reply_lines.specs.declared.run.TheConstants.{MOST_REPLY_LINE_BYTES}
 use Rattle.reply_lines.proofs.Filling.{appended}
 use Rattle.session.specs.Points.{Work}
-use Rattle.session.specs.Reporting.{Carried}
+use Rattle.certifier.specs.Blocks.{Carried}
 use Rattle.session.specs.Turns.{is_owed}
 use Rattle.session.specs.declared.desk.Asked.{Asked}
 use Rattle.wires.specs.Bytes.{PutAppends}
@@ -37,3 +38,14 @@ pub refused_owed : (work : Work Asked Carried) (version number : ℕ) (line : Op
 refused_owed work version number line is =
     lt-ltb 0 (length work.run + work.at.left)
     (omega (arith, ap (λ (t : List ℕ). length t) is, refused_some version number line))
+
+-- A first line is as much longer as its word is.
+head_longer : (version lines : ℕ) (word : List ℕ)
+    → length (head_text version word lines) ≡ length (head_text version [] lines) + length word
+head_longer version lines word = simp length-append (omega arith)
+
+-- So it is short where that is.
+pub length-head : (version lines : ℕ) (word : List ℕ) → length word ≤ 16
+    → length (head_text version word lines) ≤ MOST_REPLY_LINE_BYTES
+length-head version lines word short =
+    omega (arith, head_longer version lines word, length-short_head version lines [] (omega arith), short)

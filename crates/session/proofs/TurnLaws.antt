@@ -5,7 +5,8 @@ use Rattle.session.proofs.Concluding.{Going-join, goes_on}
 use Rattle.session.proofs.Ending.{turn_ends}
 use Rattle.session.specs.Laws.{OthersMayPublish, TurnsAreASession, TurnsJoin}
 use Rattle.session.specs.Points.{Point}
-use Rattle.session.specs.Reporting.{Carried, ReportLine}
+use Rattle.certifier.specs.Blocks.{Carried}
+use Rattle.session.specs.Reporting.{ReportLine}
 use Rattle.session.specs.Turns.{Broke, Here, StopsBy, Went, point_at}
 use Rattle.session.specs.declared.desk.Asked.{Asked}
 use Rattle.session.specs.declared.session.SessionEnd.TheVariants.{Done, ReadFault, WriteFault, TooLong}

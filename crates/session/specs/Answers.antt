@@ -1,24 +1,55 @@
 -- Which text answers the items of a session, over the records that its shelf has seen.
 use Rattle.std.specs.Prelude.{◌≡◌, ℕ, ◌+◌, ◌<◌, ◌≤◌, ◌⊎◌, List, [], ◌∷◌, ◌++◌, Bool, true, length, Some, None}
-use Rattle.std.specs.Prelude.{Result, Ok, Err}
+use Rattle.std.specs.Prelude.{Result, Ok, Err, codes}
 use Rattle.std.specs.declared.option.Option.{Option}
+use Rattle.certifier.specs.Blocks.{IsLaidOut, Layout, certificate_layout, headed, layout_size, witness_layout}
+use Rattle.cut_model.specs.Net.{Net}
 use Rattle.network_text.specs.Faults.{kind_number}
 use Rattle.network_text.specs.Sheets.{SheetView}
 use Rattle.network_text.specs.Texts.{verdict_of}
 use Rattle.network_text.specs.declared.fault.TextFault.{TextFault}
 use Rattle.query_lang.specs.Requests.{request_of, fault_number}
-use Rattle.query_lang.specs.Replies.{loaded_text, bye_text, refused_text}
+use Rattle.path_minimum.specs.Paths.{IsOrderedPath}
+use Rattle.query_lang.specs.Replies.{loaded_text, bye_text, head_text, refused_text}
 use Rattle.query_lang.specs.Reports.{IsReport}
 use Rattle.query_lang.specs.declared.request.Request.{Request}
+use Rattle.query_lang.specs.declared.request.Request.TheVariants.{Certificate, Witness}
 use Rattle.query_lang.specs.declared.request.RequestFault.{RequestFault}
 use Rattle.text_forms.specs.Items.{Item, Ask, Load, Bye}
+use Rattle.tree_state.specs.Views.{up_of}
 use Rattle.tree_versions.specs.Records.{RecordView, record_at, tree_of}
 use Rattle.tree_versions.specs.declared.shelf.TheConstants.{MOST_RECORDS}
+
+-- these lines behind a first one that tells a word and how many they are
+abbrev pub with_head : ℕ → List ℕ → Net → Layout → Layout
+with_head version word net layout = headed (head_text version word (layout_size net layout)) layout
+
+-- What lays out the reply to WITNESS: for each edge of the path of routers a and b, in the order of the path, a flow of
+-- its width.
+abbrev pub witness_reply : ℕ → Net → List ℕ → Layout
+witness_reply version net children = with_head version (codes "WITNESS") net (witness_layout children)
+
+-- What lays out the reply to CERTIFICATE: the certificate.
+abbrev pub certificate_reply : ℕ → SheetView → Layout
+certificate_reply version sheet = with_head version (codes "CERTIFICATE") sheet.net (certificate_layout sheet)
+
+-- The reply to WITNESS tells the edges of the path of routers a and b in their order, with any flows.
+pub record IsWitnessReply (seen : RecordView) (version a b : ℕ) (reply : List ℕ) : Type 0 where
+  pub children : List ℕ
+  pub path : IsOrderedPath seen.sheet.net (up_of (tree_of seen)) a b children
+  pub told : IsLaidOut seen.sheet.names (tree_of seen) (witness_reply version seen.sheet.net children) reply
+
+-- what a record answers a request
+abbrev pub AnswersFrom : RecordView → ℕ → Request → List ℕ → Type 0
+AnswersFrom seen version (Witness a b) reply = IsWitnessReply seen version a b reply
+AnswersFrom seen version Certificate reply =
+    IsLaidOut seen.sheet.names (tree_of seen) (certificate_reply version seen.sheet) reply
+AnswersFrom seen version request reply = IsReport version seen.sheet (tree_of seen) request reply
 
 -- the reply to a request line: its refusal, or what the record of the version answers
 abbrev pub RepliesTo : Option RecordView → ℕ → Result Request RequestFault → List ℕ → Type 0
 RepliesTo seen version (Err fault) reply = reply ≡ refused_text version (fault_number fault) None
-RepliesTo (Some seen) version (Ok request) reply = IsReport version seen.sheet (tree_of seen) request reply
+RepliesTo (Some seen) version (Ok request) reply = AnswersFrom seen version request reply
 RepliesTo None version (Ok request) reply = ⊥
 
 -- the sheet of a record

@@ -4,7 +4,7 @@ use Rattle.std.specs.declared.option.Option.{Option}
 use Rattle.line_reader.specs.Buffered.{Buffered}
 use Rattle.line_reader.specs.declared.reader.TheConstants.{MOST_BYTES}
 use Rattle.session.specs.Points.{Point, Rest, Work}
-use Rattle.session.specs.Reporting.{Carried}
+use Rattle.certifier.specs.Blocks.{Carried}
 use Rattle.session.specs.Sessions.{IsOver}
 use Rattle.session.specs.Shelved.{Shelved}
 use Rattle.session.specs.Turns.{Here, Kept, TurnGoes, Went}

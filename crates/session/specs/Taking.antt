@@ -5,7 +5,8 @@ use Rattle.network_text.specs.Readings.{IsWant}
 use Rattle.network_text.specs.Texts.{Progress, progress_of}
 use Rattle.session.specs.Modes.{Gives, IsByeLine, IsQuiet, gives, next_text}
 use Rattle.session.specs.Points.{Owed, Work}
-use Rattle.session.specs.Reporting.{Carried, IsHeld, ReportLine}
+use Rattle.certifier.specs.Blocks.{Carried}
+use Rattle.session.specs.Reporting.{IsHeld, ReportLine}
 use Rattle.session.specs.Shelved.{Shelved}
 use Rattle.session.specs.declared.desk.Asked.{Asked}
 use Rattle.session.specs.declared.intake.Intake.{Intake}

@@ -5,7 +5,8 @@ use Rattle.line_reader.specs.Buffered.{Buffered, Holds, fresh}
 use Rattle.line_reader.specs.declared.reader.TheConstants.{MOST_BYTES}
 use Rattle.session.specs.Goings.{Going, GoingBroken}
 use Rattle.session.specs.Points.{IsIdle, Point, Work, items_after}
-use Rattle.session.specs.Reporting.{Carried, ReportLine}
+use Rattle.certifier.specs.Blocks.{Carried}
+use Rattle.session.specs.Reporting.{ReportLine}
 use Rattle.session.specs.Sessions.{IsOver, Moment}
 use Rattle.session.specs.Taking.{HasOpen}
 use Rattle.session.specs.declared.desk.Asked.{Asked}

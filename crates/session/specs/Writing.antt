@@ -2,7 +2,8 @@
 use Rattle.std.specs.Prelude.{◌≡◌, ℕ, List, [], ◌++◌, Bool, true, None, Some}
 use Rattle.std.specs.declared.option.Option.{Option}
 use Rattle.session.specs.Points.{IsIdle, Point, Rest, Stretch, Work}
-use Rattle.session.specs.Reporting.{Carried, ReportLine}
+use Rattle.certifier.specs.Blocks.{Carried}
+use Rattle.session.specs.Reporting.{ReportLine}
 use Rattle.session.specs.Shelved.{Shelved}
 use Rattle.session.specs.Turns.{TurnCounts, is_owed}
 use Rattle.session.specs.declared.desk.Asked.{Asked}

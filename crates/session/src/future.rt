@@ -78,6 +78,8 @@ impl<'a, R: Threads + Wait + Sync, H: Shelf, P: Belled, G: Gate + Sync> TaskFutu
         ensures task { result.task ≡ task }
         ensures shelf { result.shelf.now ≡ shelf.old }
         ensures peer { result.peer.now ≡ peer.old }
+        ensures same_shelf { result.shelf.ghost_name ≡ shelf.entry.ghost_name }
+        ensures same_peer { result.peer.ghost_name ≡ peer.entry.ghost_name }
     {
         TaskFuture {
             alloc,
@@ -90,7 +92,8 @@ impl<'a, R: Threads + Wait + Sync, H: Shelf, P: Belled, G: Gate + Sync> TaskFutu
     }
 
     /// Makes one turn, and arms the context where the peer isn't ready. Once the session has ended, it makes no turn and
-    /// gives the same end. This is the `poll` of a [`Future`](futures::Future): `poll_fn(|cx| future.poll(cx))` is one.
+    /// gives the same end. This is the `poll` of a [`Future`](futures::Future): `poll_fn(|cx| future.poll(cx))` is one,
+    /// where its closure requires what `poll` does.
     pub fn poll(&mut self, cx: &mut Context<'_>) -> Poll<SessionEnd>
         requires can { CanTurn (H.seen self.old.shelf.now) self.old.task }
         ensures goes { (open_text : Option (List (List ℕ))) (bytes : List ℕ) → self.old.task.ended ≡ None
@@ -109,6 +112,10 @@ impl<'a, R: Threads + Wait + Sync, H: Shelf, P: Belled, G: Gate + Sync> TaskFutu
             × (self.new.shelf.now ≡ self.old.shelf.now) × (self.new.peer.now ≡ self.old.peer.now) }
         ensures can { CanTurn (H.seen self.new.shelf.now) self.new.task }
         ensures kept { Keeps cx.old cx.new }
+        ensures alone { H.alone self.new.shelf.now ≡ H.alone self.old.shelf.now }
+        ensures beside { P.beside_lazy self.new.peer.now ≡ P.beside_lazy self.old.peer.now }
+        ensures same_shelf { self.new.shelf.ghost_name ≡ self.old.shelf.ghost_name }
+        ensures same_peer { self.new.peer.ghost_name ≡ self.old.peer.ghost_name }
     {
         if let Some(end) = self.task.ended() {
             return Poll::Ready(end);

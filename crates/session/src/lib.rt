@@ -13,6 +13,7 @@ pub mod laws;
 mod machine;
 mod means;
 mod put_out;
+mod runs;
 mod session;
 mod state;
 mod task;

@@ -3,7 +3,8 @@ ghost use Rattle.std.specs.Prelude.{◌≡◌, ℕ, ◌<◌, ◌≤◌, List, []
 ghost use Rattle.std.specs.declared.option.Option.{Option};
 ghost use Rattle.line_reader.specs.declared.reader.TheConstants.{MOST_BYTES};
 ghost use Rattle.session.specs.Points.{IsIdle, Point, Rest};
-ghost use Rattle.session.specs.Reporting.{Carried, IsHeld};
+ghost use Rattle.certifier.specs.Blocks.{Carried};
+ghost use Rattle.session.specs.Reporting.{IsHeld};
 ghost use Rattle.session.specs.Shelved.{Shelved, shelved};
 ghost use Rattle.session.specs.Steps.{Gone, IsClosed, IsMet, IsPart, NextGoes, ReadGoes, StepGoes, here_at, to_do};
 ghost use Rattle.session.specs.Steps.{with_work};

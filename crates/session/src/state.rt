@@ -12,7 +12,8 @@ ghost use Rattle.query_lang.specs.Requests.{IsOf, needs_record};
 ghost use Rattle.session.specs.Answers.{IsTextRefusal, sheet_in};
 ghost use Rattle.session.specs.Modes.{Loads};
 ghost use Rattle.session.specs.Points.{IsIdle};
-ghost use Rattle.session.specs.Reporting.{Carried, IsHeld, IsReporting, ReportLine, Reported};
+ghost use Rattle.certifier.specs.Blocks.{Carried};
+ghost use Rattle.session.specs.Reporting.{IsHeld, IsReporting, ReportLine, Reported};
 ghost use Rattle.session.specs.Shelved.{IsLook, shelved};
 ghost use Rattle.session.specs.Taking.{HasRead, HasOpen, LineTaken, Owing, is_open, is_stale, lines_in};
 ghost use Rattle.session.specs.Turns.{is_owed};
@@ -25,7 +26,6 @@ use crate::means::Means;
 use cut_model::NoMemory;
 use job_queue::MOST_WORKERS;
 use network_text::{Fed, Reader, Sheet, TextFault, TextKind};
-use path_minimum::PathRoom;
 use query_lang::{Request, parse_request};
 use std::alloc::Global;
 use std::mem;
@@ -41,12 +41,11 @@ const SHELF_FULL: u32 = 20;
 /// The refusal of a text for which there was no memory.
 const OUT_OF_MEMORY: u32 = 90;
 
-/// The text that is open, the reply in work, the room of a path, and how many workers build a tree.
+/// The text that is open, the reply in work, and how many workers build a tree.
 #[derive(Drop)]
 pub struct State {
     pub intake: Intake,
     pub desk: Desk,
-    room: PathRoom,
     workers: u32,
     ghost some: { 0 < workers },
     ghost most: { workers ≤ MOST_WORKERS },
@@ -97,8 +96,7 @@ fn begin_text(alloc: Global) -> Intake
 }
 
 impl State {
-    /// The state between two items, with the room for a run of lines and for the longest path, in which so many workers
-    /// build a tree.
+    /// The state between two items, with all room that replies need, in which so many workers build a tree.
     ///
     /// # Errors
     /// [`NoMemory`] where the memory of one of these can't be had.
@@ -112,7 +110,6 @@ impl State {
         Ok(State {
             intake: Intake::Between,
             desk: Desk::make(alloc)?,
-            room: PathRoom::make(alloc)?,
             workers,
         })
     }
@@ -241,7 +238,7 @@ impl State {
         let Some(made) = seen else {
             unreachable!();
         };
-        self.desk.report(version, made, request, &mut self.room);
+        self.desk.report(version, made, request);
     }
 
     /// Takes a line of a text that is read.
@@ -423,7 +420,7 @@ impl State {
             }
         }
     }
-    /// Fills the run with further lines of the report in work, where lines are left and all of the run was taken.
+    /// Fills the run with further lines of the reply in work, where lines are left and all of the run was taken.
     pub fn fill<H: Shelf>(&mut self, shelf: &H)
         requires more { 0 < self.old.desk.at.left }
         requires held { IsHeld (H.seen shelf.now) self.old.desk }
@@ -434,6 +431,6 @@ impl State {
         ensures held { IsReporting (H.seen shelf.now) self.new.desk }
         ensures intake { self.new.intake ≡ self.old.intake }
     {
-        self.desk.fill(shelf, &mut self.room);
+        self.desk.fill(shelf);
     }
 }

@@ -3,7 +3,7 @@ use Rattle.line_reader.specs.Buffered.{Buffered}
 use Rattle.line_reader.specs.declared.reader.TheConstants.{MOST_BYTES}
 use Rattle.session.proofs.Machining.{fault_stops, late_stops, spent_stops}
 use Rattle.session.specs.Points.{IsIdle, Work}
-use Rattle.session.specs.Reporting.{Carried}
+use Rattle.certifier.specs.Blocks.{Carried}
 use Rattle.session.specs.Shelved.{shelved}
 use Rattle.session.specs.Steps.{IsMet, here_at}
 use Rattle.session.specs.Turns.{Kept, TurnGoes, Went}

@@ -1,7 +1,8 @@
-use Rattle.std.proofs.Common.{None, sym, subst}
+use Rattle.std.proofs.Common.{None, length, sym, subst}
 use Rattle.session.specs.Taking.{HasOpen}
 use Rattle.session.specs.declared.intake.Intake.{Intake}
 use Rattle.session.proofs.Requesting.{passed_taken, load_taken, bye_taken, refused_taken, reported_taken}
+use Rattle.session.proofs.Telling.{begun_held}
 use Rattle.session.proofs.state.State.take_request.Goals as goal
 
 pub returns-in-Ok-Nothing-clause-taken : goal.returns-in-Ok-Nothing-clause-taken
@@ -36,3 +37,9 @@ returns-in-Err-clause-taken g c =
     (subst (λ (i : Intake). HasOpen i None) (sym c.refuse.ensures.intake) c.requires.between)
     (rw (c.sheet_of.ensures, c.seen_record-seen.ensures, c.look-version.ensures.count) at c.in-Err.ensures.value)
     c.refuse.ensures.whole (rw (c.number.ensures, c.look-version.ensures.count) at c.refuse.ensures.reply)
+
+pub returns-in-Ok-clause-held : goal.returns-in-Ok-clause-held
+returns-in-Ok-clause-held g c =
+    let seen = g.H.Shelf.seen c.look-version.new.shelf in
+    begun_held seen (record { version = length seen; request = c.in-Ok.request }) c.report.new.self.desk
+    (rw (c.seen_record-seen.ensures, c.look-version.ensures.count) at c.report.ensures.reported)

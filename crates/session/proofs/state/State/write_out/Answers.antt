@@ -1,5 +1,6 @@
 use Rattle.std.proofs.Common.{refl, ◌∙◌, None, Some}
 use Rattle.session.proofs.Putting.{PutGoes-join, fill_goes}
+use Rattle.session.proofs.Reporting.{held_same}
 use Rattle.session.proofs.Stretching.{Stretch-none}
 use Rattle.session.specs.Reporting.{ReportLine}
 use Rattle.session.specs.Shelved.{shelved}
@@ -43,3 +44,13 @@ runs-preserved g c = let e = c.in_default.ensures in record {
   counts = e.counts ∙ c.runs.invariant.counts;
   beside = e.beside ∙ c.runs.invariant.beside;
 }
+
+pub returns-in-Some-clause-held : goal.returns-in-Some-clause-held
+returns-in-Some-clause-held g c =
+    held_same (g.H.Shelf.seen c.args.shelf.now) c.runs.self.desk c.put_run.new.self c.put_run.ensures.reply
+    c.put_run.ensures.at c.runs.invariant.held
+
+pub fill-requires-clause-held : goal.fill-requires-clause-held
+fill-requires-clause-held g c =
+    held_same (g.H.Shelf.seen c.args.shelf.now) c.runs.self.desk c.put_run.new.self c.put_run.ensures.reply
+    c.put_run.ensures.at c.runs.invariant.held
