@@ -17,6 +17,8 @@ mod runs;
 mod session;
 mod state;
 mod task;
+#[cfg(test)]
+mod tests;
 
 pub use desk::Asked;
 pub use future::{Belled, TaskFuture};
