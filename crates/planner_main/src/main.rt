@@ -29,6 +29,7 @@ fn code_of(status: Status) -> u8
         Status::WriteFault => 3,
         Status::NoMemory => 4,
         Status::TooLong => 5,
+        Status::NotAccepted => 7,
     }
 }
 

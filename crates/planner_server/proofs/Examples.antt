@@ -1,7 +1,7 @@
 -- What some words name.
 use Rattle.std.proofs.Common.{◌≡◌, [], ◌∷◌, Some, None, refl, codes}
 use Rattle.planner_server.specs.Commands.{command_of}
-use Rattle.planner_server.specs.declared.command.Command.TheVariants.{Plan}
+use Rattle.planner_server.specs.declared.command.Command.TheVariants.{Plan, Check}
 
 -- the option may be missing
 plain : command_of (codes "plan" ∷ []) ≡ Some (Plan 1)
@@ -34,6 +34,13 @@ no_option = refl
 -- the option comes behind the command
 option_first : command_of (codes "--workers=2" ∷ codes "plan" ∷ []) ≡ None
 option_first = refl
+
+-- a check takes no options
+check : command_of (codes "check" ∷ []) ≡ Some Check
+check = refl
+
+check_with_word : command_of (codes "check" ∷ codes "x" ∷ []) ≡ None
+check_with_word = refl
 
 -- no words
 no_words : command_of [] ≡ None

@@ -5,7 +5,7 @@ use Rattle.std.specs.Str.{bytes_eq}
 use Rattle.std.specs.declared.option.Option.{Option}
 use Rattle.planner_server.specs.Options.{are_options, given_in}
 use Rattle.planner_server.specs.declared.command.Command.{Command}
-use Rattle.planner_server.specs.declared.command.Command.TheVariants.{Plan}
+use Rattle.planner_server.specs.declared.command.Command.TheVariants.{Plan, Check}
 use Rattle.planner_server.specs.declared.options.Given.{Given}
 use Rattle.planner_server.specs.declared.options.Given.TheVariants.{Missing, Number, Wrong}
 use Rattle.planner_server.specs.declared.options.OptionName.TheVariants.{Workers}
@@ -21,7 +21,15 @@ abbrev pub plan_of : List (List ℕ) → Option Command
 plan_of options =
     if are_options (Workers ∷ []) options then option_map Plan (number_or 1 (given_in Workers options)) else None
 
+-- `check`, which takes no options
+abbrev pub check_of : List (List ℕ) → Option Command
+check_of [] = Some Check
+check_of (option ∷ options) = None
+
 -- the command that the words name, if they name one
 abbrev pub command_of : List (List ℕ) → Option Command
 command_of [] = None
-command_of (name ∷ options) = if bytes_eq name (codes "plan") then plan_of options else None
+command_of (name ∷ options) =
+    if bytes_eq name (codes "plan") then plan_of options
+    else if bytes_eq name (codes "check") then check_of options
+    else None

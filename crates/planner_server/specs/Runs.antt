@@ -1,12 +1,17 @@
 -- What a run of a command leaves.
-use Rattle.std.specs.Prelude.{◌≡◌, ℕ, ◌<◌, ◌⊎◌, List, [], ◌++◌, length, Bool, true, false, Some}
+use Rattle.std.specs.Prelude.{◌≡◌, ℕ, ◌<◌, ◌⊎◌, List, [], ◌++◌, length, Bool, true, false, Some, None}
 use Rattle.std.specs.declared.option.Option.{Option}
+use Rattle.certifier.specs.Certificates.{verdict_on}
+use Rattle.certifier.specs.Checks.{Checks, Tells}
+use Rattle.certifier.specs.declared.checking.CheckEnd.{CheckEnd}
+use Rattle.certifier.specs.declared.checking.CheckEnd.TheVariants as check_ends
 use Rattle.line_reader.specs.declared.reader.TheConstants.{MOST_BYTES}
 use Rattle.planner_server.specs.declared.command.Command.{Command}
-use Rattle.planner_server.specs.declared.command.Command.TheVariants.{Plan}
+use Rattle.planner_server.specs.declared.command.Command.TheVariants.{Plan, Check}
 use Rattle.planner_server.specs.declared.outcome.Status.{Status}
 use Rattle.planner_server.specs.declared.outcome.Status.TheVariants.{Done, BadWords, ReadFault, WriteFault}
-use Rattle.planner_server.specs.declared.outcome.Status.TheVariants.{NoMemory, TooLong}
+use Rattle.planner_server.specs.declared.outcome.Status.TheVariants.{NoMemory, TooLong, NotAccepted}
+use Rattle.planner_server.specs.Statuses.{check_status}
 use Rattle.session.specs.Answers.{Alone}
 use Rattle.session.specs.Sessions.{Breaks, Ends, IsComplete, IsCutShort, IsTooLong, Moment}
 use Rattle.text_forms.specs.Items.{Item, NoBye, items_of}
@@ -72,6 +77,7 @@ PlanEnds TooLong run = AnswersItems (IsTooLong run.now.wire) run
 PlanEnds WriteFault run = AnswersFront run
 PlanEnds NoMemory run = Unit {0}
 PlanEnds BadWords run = ⊥
+PlanEnds NotAccepted run = ⊥
 
 -- A session over the source and the sink. Where the source tells that it has fewer than MOST_BYTES left and nothing
 -- fails, it is done, unless there was no memory to begin with. Where it gave MOST_BYTES without a BYE, and its end
@@ -81,9 +87,30 @@ pub record PlanRan (status : Status) (run : RunView) : Type 0 where
   pub completes : (bytes : List ℕ) → run.start.wire.left ≡ Some bytes → length bytes < MOST_BYTES
       → (ReadFailed run → ⊥) → (WriteFailed run → ⊥) → (status ≡ Done) ⊎ (status ≡ NoMemory)
   pub always_too_long : (taken rest : List ℕ) → run.start.wire.left ≡ Some (taken ++ rest)
-      → run.now.wire.left ≡ Some rest → length taken ≡ MOST_BYTES → run.now.wire.ended ≡ false → NoBye (items_of false taken) → (WriteFailed run → ⊥)
-      → status ≡ TooLong
+      → run.now.wire.left ≡ Some rest → length taken ≡ MOST_BYTES → run.now.wire.ended ≡ false
+      → NoBye (items_of false taken) → (WriteFailed run → ⊥) → status ≡ TooLong
+
+-- A check of what the source tells as a certificate: it took bytes, and wrote the line of the verdict on them, as its
+-- end says. Where nothing fails and the bytes that the source tells aren't too many, as fewer than MOST_BYTES never are,
+-- that is the verdict on all of them, unless memory was wanted. There are no records.
+pub record CheckRan (status : Status) (run : RunView) : Type 0 where
+  pub end : CheckEnd
+  pub status_is : status ≡ check_status end
+  pub checks : Checks end run.start.wire run.now.wire
+  pub exact : (bytes : List ℕ) → run.start.wire.left ≡ Some bytes → (ReadFailed run → ⊥) → (WriteFailed run → ⊥)
+      → (end ≡ check_ends.TooLong → ⊥) → Tells end (verdict_on true bytes) ⊎ (end ≡ check_ends.NoMemory)
+  pub completes : (bytes : List ℕ) → run.start.wire.left ≡ Some bytes → length bytes < MOST_BYTES
+      → (ReadFailed run → ⊥) → (WriteFailed run → ⊥)
+      → Tells end (verdict_on true bytes) ⊎ (end ≡ check_ends.NoMemory)
+  pub no_record : run.records ≡ []
+
+-- At this end nothing was read or written: where there is no command, and where `plan` had no memory to begin with.
+abbrev pub IsUntouched : Option Command → Status → Type 0
+IsUntouched None status = Unit {0}
+IsUntouched (Some (Plan workers)) status = status ≡ NoMemory
+IsUntouched (Some Check) status = ⊥
 
 -- the command was run, ended so, and met and left this
 abbrev pub Ran : Command → Status → RunView → Type 0
 Ran (Plan workers) status run = PlanRan status run
+Ran Check status run = CheckRan status run

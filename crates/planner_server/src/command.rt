@@ -1,7 +1,7 @@
 //! The command that the words of a command line name.
 ghost use Rattle.std.specs.Prelude.{◌≡◌, map};
 ghost use Rattle.std.specs.String.{string_bytes};
-ghost use Rattle.planner_server.specs.Commands.{command_of, number_or, plan_of};
+ghost use Rattle.planner_server.specs.Commands.{check_of, command_of, number_or, plan_of};
 
 use crate::options::{Given, OptionName, are_options};
 
@@ -13,6 +13,8 @@ pub enum Command {
         /// How many workers at most build a tree: 1 to 16.
         workers: u32,
     },
+    /// The check of a certificate that the source tells.
+    Check,
 }
 
 /// The number of an option that may be missing, and is then the usual one; none where it is given wrongly.
@@ -37,6 +39,13 @@ fn read_plan(options: &[String]) -> Option<Command>
     Some(Command::Plan { workers })
 }
 
+/// The command `check`, which takes no options.
+fn read_check(options: &[String]) -> Option<Command>
+    ensures { result ≡ check_of (map string_bytes options.now) }
+{
+    options.is_empty().then_some(Command::Check)
+}
+
 /// The command that the words name, if they name one. Goes over each word a few times.
 pub fn read_command(words: &[String]) -> Option<Command>
     ensures { result ≡ command_of (map string_bytes words.now) }
@@ -46,6 +55,7 @@ pub fn read_command(words: &[String]) -> Option<Command>
     };
     match name.as_str() {
         "plan" => read_plan(options),
+        "check" => read_check(options),
         _ => None,
     }
 }

@@ -2,7 +2,7 @@
 //!
 //! `run` reads the words once, and runs the command that they name. Its contract says by the command and the
 //! status what was written: of `plan`, the replies to the items that were read, over the records that it hands back
-//! and no others.
+//! and no others; of `check`, the line of the verdict on the certificate that was read.
 #![tactic(auto)]
 
 mod command;

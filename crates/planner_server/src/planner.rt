@@ -4,7 +4,7 @@ ghost use Rattle.std.specs.Prelude.{length, map, IfOk, IfSome};
 ghost use Rattle.std.specs.String.{string_bytes};
 ghost use Rattle.job_queue.specs.declared.jobs.TheConstants.{MOST_WORKERS};
 ghost use Rattle.planner_server.specs.Commands.{command_of};
-ghost use Rattle.planner_server.specs.Runs.{PlanRan, Ran, ports};
+ghost use Rattle.planner_server.specs.Runs.{CheckRan, IsUntouched, PlanRan, Ran, ports};
 ghost use Rattle.planner_server.specs.Statuses.{is_read_fault, is_write_fault, status_of};
 ghost use Rattle.tree_versions.specs.Records.{AreCutTrees, AreFinished};
 ghost use Rattle.tree_versions.specs.Solo.{views_of};
@@ -13,6 +13,7 @@ ghost use Rattle.wires.specs.Causes.{CountsOne};
 
 use crate::command::{Command, read_command};
 use crate::{Outcome, Status};
+use certifier::{CheckEnd, check};
 use cut_model::NoMemory;
 use job_queue::MOST_WORKERS;
 use session::{Session, SessionEnd, serve_session};
@@ -44,8 +45,8 @@ impl Planner {
     }
 }
 
-/// An end at which nothing was read or written.
-fn refused(alloc: Global, status: Status) -> Outcome
+/// The end of a run that leaves no records.
+fn without_records(alloc: Global, status: Status) -> Outcome
     ensures status { result.status ≡ status }
     ensures records { views_of result.records.items ≡ [] }
 {
@@ -66,6 +67,23 @@ impl From<SessionEnd> for Status {
             SessionEnd::ReadFault => Status::ReadFault,
             SessionEnd::WriteFault => Status::WriteFault,
             SessionEnd::TooLong => Status::TooLong,
+        }
+    }
+}
+
+impl From<CheckEnd> for Status {
+    ghost use Rattle.planner_server.specs.Statuses.{check_status};
+
+    ghost from_gives = { λ end status. status ≡ check_status end };
+
+    fn from(end: CheckEnd) -> Status {
+        match end {
+            CheckEnd::Accepted => Status::Done,
+            CheckEnd::Refused { .. } => Status::NotAccepted,
+            CheckEnd::ReadFault => Status::ReadFault,
+            CheckEnd::WriteFault => Status::WriteFault,
+            CheckEnd::TooLong => Status::TooLong,
+            CheckEnd::NoMemory => Status::NoMemory,
         }
     }
 }
@@ -129,7 +147,7 @@ fn plan<R: Threads + Wait + Sync, S: Source, K: Sink, G: Gate + Sync>(
     ensures beside_sink { K.beside_sink sink.new ≡ K.beside_sink sink.old }
 {
     let Ok(planner) = Planner::make(alloc, workers) else {
-        return refused(alloc, Status::NoMemory);
+        return without_records(alloc, Status::NoMemory);
     };
     let Planner {
         mut session,
@@ -142,9 +160,29 @@ fn plan<R: Threads + Wait + Sync, S: Source, K: Sink, G: Gate + Sync>(
     }
 }
 
+/// The command `check`: what the source tells is read as a certificate, and the line of the verdict on it is put.
+fn check_text<S: Source, K: Sink>(alloc: Global, source: &mut S, sink: &mut K) -> Outcome
+    ensures ran { CheckRan result.status (record {
+      start = ports S.Source K.Sink source.old sink.old;
+      now = ports S.Source K.Sink source.new sink.new;
+      records = views_of result.records.items;
+    }) }
+    ensures good_words { result.status ≢ Status.BadWords }
+    ensures no_record { views_of result.records.items ≡ [] }
+    ensures read_cause { CountsOne (S.read_faults source.old) (S.read_faults source.new)
+        (is_read_fault result.status) }
+    ensures write_cause { CountsOne (K.write_faults sink.old) (K.write_faults sink.new)
+        (is_write_fault result.status) }
+    ensures beside_source { S.beside_source source.new ≡ S.beside_source source.old }
+    ensures beside_sink { K.beside_sink sink.new ≡ K.beside_sink sink.old }
+{
+    let end = check(alloc, source, sink);
+    without_records(alloc, Status::from(end))
+}
+
 /// Runs the command that the words name, over the source and the sink.
 ///
-/// It is `plan`, with the option `--workers`: a session that reads request lines to the end of the input or to BYE,
+/// `plan`, with the option `--workers`, is a session that reads request lines to the end of the input or to BYE,
 /// and puts one reply for each item. At most so many workers build the tree of a network that is loaded, and the
 /// gate computes their cuts. The contract says for each status what was written: the replies to the whole items
 /// of the bytes that were taken, over the records that are handed back. What a source or a sink doesn't tell of its
@@ -154,9 +192,13 @@ fn plan<R: Threads + Wait + Sync, S: Source, K: Sink, G: Gate + Sync>(
 /// what a text must be to be such a reply is `IsCutReport` (`query_lang/specs/Reports.antt`), and that
 /// is its field `least`. That to WEAKEST is so for the whole network (`IsWeakestReport`).
 ///
-/// `NoMemory` comes only before the first read. A run takes at most [`MOST_BYTES`](line_reader::MOST_BYTES)
-/// from its source, keeps at most [`MOST_RECORDS`](tree_versions::MOST_RECORDS) records of up to about 400 kB
-/// each, and some 180 kB beside; while a tree is built, it takes up to 450 kB for each worker.
+/// `check` reads a certificate, and puts one line: that it is accepted, or its first fault. The contract says that
+/// this is the verdict on the bytes that were taken (`verdict_on` in `certifier/specs/Certificates.antt`).
+///
+/// Of `plan`, `NoMemory` comes only before the first read, and of `check` only before the put. A run takes at most
+/// [`MOST_BYTES`](line_reader::MOST_BYTES) from its source. `plan` keeps at most
+/// [`MOST_RECORDS`](tree_versions::MOST_RECORDS) records of up to about 400 kB each, and some 630 kB beside, most of
+/// it for a flow; while a tree is built, it takes up to 450 kB for each worker. `check` keeps less than 2 MB.
 pub fn run<R: Threads + Wait + Sync, S: Source, K: Sink, G: Gate + Sync>(
     alloc: Global,
     rt: &R,
@@ -174,9 +216,12 @@ pub fn run<R: Threads + Wait + Sync, S: Source, K: Sink, G: Gate + Sync>(
 
     ensures bad_words { (result.status ≡ Status.BadWords) ↔ (command_of (map string_bytes words.now) ≡ None) }
 
-    // At these two nothing was read or written.
-    ensures untouched { (result.status ≡ Status.BadWords) ⊎ (result.status ≡ Status.NoMemory)
-        → (source.new ≡ source.old) × (sink.new ≡ sink.old) × (views_of result.records.items ≡ []) }
+    // Nothing was read or written where there is no command, and where `plan` had no memory.
+    ensures untouched { IsUntouched (command_of (map string_bytes words.now)) result.status
+        → (source.new ≡ source.old) × (sink.new ≡ sink.old) }
+
+    ensures no_record { (result.status ≡ Status.BadWords) ⊎ (result.status ≡ Status.NoMemory)
+        → views_of result.records.items ≡ [] }
 
     ensures few { length (views_of result.records.items) ≤ MOST_RECORDS }
 
@@ -196,7 +241,8 @@ pub fn run<R: Threads + Wait + Sync, S: Source, K: Sink, G: Gate + Sync>(
     ensures beside_sink { K.beside_sink sink.new ≡ K.beside_sink sink.old }
 {
     match read_command(words) {
-        None => refused(alloc, Status::BadWords),
+        None => without_records(alloc, Status::BadWords),
         Some(Command::Plan { workers }) => plan(alloc, rt, workers, source, sink, gate),
+        Some(Command::Check) => check_text(alloc, source, sink),
     }
 }

@@ -32,6 +32,14 @@ const TWO_CUTS_REPLIES: &[u8] = b"@1 LOADED routers 3 links 2\n@1 CUT 5 side a\n
 /// What a second session gets, over the record of the first.
 const SECOND_REPLIES: &[u8] = b"@2 LOADED routers 2 links 1\n@2 CUT 5 side a\n@2 BYE\n";
 
+/// A certificate of three routers in a row: b sends its 5 to a, and c its 4 to b.
+const CERTIFICATE: &[u8] = b"cut tree 1\nrouter a\nrouter b\nrouter c\nlink a b 5\nlink b c 4\n\
+    END\nroot a\nedge b a 5\non -5\non 0\nedge c b 4\non 0\non -4\nDONE\n";
+
+/// The same with a first edge that is wider than what its flow carries.
+const SPOILT: &[u8] = b"cut tree 1\nrouter a\nrouter b\nrouter c\nlink a b 5\nlink b c 4\n\
+    END\nroot a\nedge b a 6\non -5\non 0\nedge c b 4\non 0\non -4\nDONE\n";
+
 /// A source of `FIRST` in pieces, and a sink with this room, which fail at these calls, if they are so many.
 fn peer(
     alloc: Global,
@@ -115,6 +123,29 @@ fn a_session_begins_anew_over_the_records_of_the_one_before(rt: HostRuntime) -> 
     let mut shelf = SoloShelf::make(alloc)?;
     assert!(rt; is_served(&rt, &mut session, &mut shelf, FIRST_REPLIES)?);
     assert!(rt; is_served(&rt, &mut session, &mut shelf, SECOND_REPLIES)?);
+    Ok(())
+}
+
+/// Whether a run of `check` over a text ends so, and writes this.
+fn checks<R: Threads + Wait + Sync + AllocGlobal>(
+    rt: &R,
+    text: &[u8],
+    status: Status,
+    line: &[u8],
+) -> Result<bool, Fail> {
+    let alloc = rt.alloc();
+    let words = vec![in alloc; String::from_str(alloc, "check")?]?;
+    let mut source = MemorySource::make(text.to_vec(alloc)?, 7, vec![in alloc; 0]?);
+    let mut sink = MemorySink::make(alloc, 100, vec![in alloc; 0]?)?;
+    let outcome = run(alloc, rt, &words, &mut source, &mut sink, &OpenGate);
+    Ok(outcome.status == status && outcome.records.is_empty() && sink.written() == line)
+}
+
+#[test]
+fn a_certificate_is_accepted_and_a_spoilt_one_is_not(rt: HostRuntime) -> Result<(), Fail> {
+    let accepted = b"accepted routers 3 links 2\n";
+    assert!(rt; checks(&rt, CERTIFICATE, Status::Done, accepted)?);
+    assert!(rt; checks(&rt, SPOILT, Status::NotAccepted, b"refused 37 line 9\n")?);
     Ok(())
 }
 
