@@ -2,9 +2,12 @@
 # shellcheck shell=sh disable=SC2154
 
 try a_folder_as_standard_input_is_a_read_fault 2 "$room/nothing" tests plan
+try a_folder_as_a_certificate_is_a_read_fault 2 "$room/nothing" tests check
 
-timeout -k 5 "$seconds" "$program" plan >"$room/stdout" 2>"$room/stderr" <&-
-judge a_closed_input_is_a_read_fault "$?" 2 "$room/nothing"
+for command in plan check; do
+    timeout -k 5 "$seconds" "$program" "$command" >"$room/stdout" 2>"$room/stderr" <&-
+    judge "a_closed_input_is_a_read_fault_of_$command" "$?" 2 "$room/nothing"
+done
 
 # faulty_output NAME STATUS: of a run whose output cannot be looked at.
 faulty_output() {
@@ -17,6 +20,13 @@ faulty_output a_full_device_is_a_write_fault "$?"
 
 timeout -k 5 "$seconds" "$program" plan <"$first/stdin" 2>"$room/stderr" >&-
 faulty_output a_closed_output_is_a_write_fault "$?"
+
+accepted=tests/cases/check_accepts_three_routers_in_a_row
+timeout -k 5 "$seconds" "$program" check <"$accepted/stdin" >/dev/full 2>"$room/stderr"
+faulty_output a_full_device_is_a_write_fault_of_a_check "$?"
+
+timeout -k 5 "$seconds" "$program" check <"$accepted/stdin" 2>"$room/stderr" >&-
+faulty_output a_closed_output_is_a_write_fault_of_a_check "$?"
 
 # (far more replies than a pipe holds)
 yes X | head -n 100000 >"$room/stdin"
@@ -31,6 +41,15 @@ try a_word_with_a_line_feed 1 "$room/nothing" "$first/stdin" "plan
 
 try the_first_example 0 "$first/stdout" examples/first.txt plan
 try the_backbone_example 0 examples/backbone.replies examples/backbone.txt plan
+
+# (the verdict comes when it is known: the input stays open)
+mkfifo "$room/open"
+timeout -k 5 "$seconds" "$program" check <"$room/open" >"$room/stdout" 2>"$room/stderr" &
+exec 3>"$room/open"
+cat "$accepted/stdin" >&3
+wait "$!"
+judge a_check_ends_at_the_last_line_of_the_certificate "$?" 0 "$accepted/stdout"
+exec 3>&-
 
 # Each request is sent when the reply to the one before has come.
 converse() {

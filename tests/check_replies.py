@@ -11,7 +11,8 @@ and WORKERS, or `wrong`, these two, and what is wrong.
 
 All of it stands on docs/PROTOCOL.md alone: texts, refusals, cuts by a flow of its own, and Gusfield's method
 with least sides. Only the order in which the routers were taken is read from the program's replies to RUN.
-With that order every byte of the other replies is known, and is compared.
+With that order every byte of the other replies is known, and is compared; but for the values on links that
+WITNESS and CERTIFICATE tell, which must be a flow of their edge, and the same one as often as it is told.
 """
 
 import random
@@ -29,6 +30,10 @@ MOST_ROUTERS_OF_A_TREE = 400
 
 NAME = re.compile(rb"[A-Za-z0-9._-]{1,32}")
 NUMBER = re.compile(rb"[0-9]+")
+WRITTEN_VALUE = re.compile(rb"on (0|-?[1-9][0-9]*)")
+
+REQUESTS = [b"LOAD", b"CUT", b"PATH", b"WEAKEST", b"TREE", b"RUN", b"NET", b"WITNESS", b"CERTIFICATE", b"BYE"]
+OF_TWO_ROUTERS = [b"CUT", b"PATH", b"WITNESS"]
 
 
 class Wrong(Exception):
@@ -145,6 +150,26 @@ class Network:
 
     def cost(self, side):
         return sum(capacity for a, b, capacity in self.links if (a in side) != (b in side))
+
+    def leaving(self, flow):
+        """What leaves each router by a flow, less what arrives there."""
+        leaving = [0] * len(self.names)
+        for (a, b, _), value in zip(self.links, flow):
+            leaving[a] += value
+            leaving[b] -= value
+        return leaving
+
+    def check_flow(self, flow, child, above, width):
+        """Raises Wrong where the values on the links are no flow of this width from a router to another."""
+        if len(flow) != len(self.links):
+            raise Wrong("a block has %d values on %d links" % (len(flow), len(self.links)))
+        if any(abs(value) > capacity for value, (_, _, capacity) in zip(flow, self.links)):
+            raise Wrong("a value is above the capacity of its link")
+        leaving = self.leaving(flow)
+        if leaving[child] != width:
+            raise Wrong("a flow of %d leaves the end of an edge of %d" % (leaving[child], width))
+        if any(amount for router, amount in enumerate(leaving) if router not in (child, above)):
+            raise Wrong("a flow isn't kept at a router")
 
     def text(self):
         lines = [b"router %s" % name for name in self.names]
@@ -280,6 +305,14 @@ def replies_in(output):
     return replies
 
 
+def values_in(lines):
+    """The values that these lines of a block tell."""
+    found = [WRITTEN_VALUE.fullmatch(line) for line in lines]
+    if None in found:
+        raise Wrong("this is no line of a value: %s" % shown([lines[found.index(None)]]))
+    return [int(value[1]) for value in found]
+
+
 class Session:
     """A session that is answered by the rules, with the orders that its replies to RUN tell."""
 
@@ -287,6 +320,7 @@ class Session:
         self.networks = []
         self.trees = {}
         self.runs = {}
+        self.flows = {}
         for head, *lines in replies:
             if re.match(rb"@[0-9]+ RUN ", head):
                 self.runs.setdefault(int(head[1:].split()[0]), lines)
@@ -342,9 +376,9 @@ class Session:
         if is_long(line):
             return 2
         word, *words = words_of(line)
-        if word not in (b"LOAD", b"CUT", b"PATH", b"TREE", b"RUN", b"NET", b"WEAKEST", b"BYE"):
+        if word not in REQUESTS:
             return 1
-        if len(words) != (2 if word in (b"CUT", b"PATH") else 0):
+        if len(words) != (2 if word in OF_TWO_ROUTERS else 0):
             return 3
         if word in (b"LOAD", b"BYE"):
             return None
@@ -361,7 +395,7 @@ class Session:
 
     def answer(self, line, written):
         """The reply to a request; one to CUT in a network that is too large for a tree is the one that was
-        written, if it is right."""
+        written, if it is right, and so are the values of flows."""
         fault = self.fault_of(line)
         if fault:
             return self.refusal(fault)
@@ -380,6 +414,10 @@ class Session:
         if word == b"RUN":
             names = network.names
             return self.listed(word, [b"%s %s %d" % (names[s], names[t], k) for s, t, k in tree.commits])
+        if word == b"WITNESS":
+            return self.listed(word, self.blocks(b"flow", tree.path(*ends), written[1:]))
+        if word == b"CERTIFICATE":
+            return self.listed(word, self.certificate(written[1:]))
         if word == b"PATH":
             return self.listed(word, [tree.edge_line(child) for child in tree.path(*ends)])
         if word == b"CUT":
@@ -387,6 +425,31 @@ class Session:
             return self.cut_reply(word, tree.width[child], tree.side_holding(child, ends[0]))
         child = tree.least(range(1, len(network.names)))
         return self.cut_reply(word, tree.width[child], tree.below(child))
+
+    def blocks(self, word, children, written):
+        """The lines that tell the edges above these routers with their flows, which are those that were written."""
+        tree = self.tree()
+        size = 1 + len(tree.network.links)
+        lines = []
+        for place, child in enumerate(children):
+            values = written[place * size + 1 : (place + 1) * size]
+            self.check_block(child, values_in(values))
+            lines += [b"%s %s" % (word, tree.edge_line(child)), *values]
+        return lines
+
+    def check_block(self, child, flow):
+        """Raises Wrong where this is no flow of the edge above a router, or another one than was told before."""
+        tree = self.tree()
+        tree.network.check_flow(flow, child, tree.up[child], tree.width[child])
+        if self.flows.setdefault((self.version(), child), flow) != flow:
+            raise Wrong("another flow of an edge is told than before")
+
+    def certificate(self, written):
+        """The lines of a certificate; the flows are those that were written."""
+        network = self.networks[-1]
+        front = [b"cut tree 1", *network.text(), b"root %s" % network.names[0]]
+        edges = self.blocks(b"edge", range(1, len(network.names)), written[len(front) :])
+        return [*front, *edges, b"DONE"]
 
     def checked_cut(self, a, b, written):
         network = self.networks[-1]
@@ -468,7 +531,9 @@ def drawn_requests(draw, names):
     for _ in range(6):
         a, b = draw.choice(names), draw.choice(names)
         requests += ["CUT %s %s" % (a, b), "PATH %s %s" % (a, b), "CUT %s %s" % (b, a)]
+        requests += ["WITNESS %s %s" % (a, b)]
     requests += draw.sample(["NET", "TREE", "RUN", "CUT nobody %s" % names[0], "RUN now", "END"], 2)
+    requests += draw.sample(["CERTIFICATE", "CERTIFICATE", "WITNESS nobody %s" % names[0], "CERTIFICATE now"], 2)
     draw.shuffle(requests)
     return requests
 

@@ -73,6 +73,7 @@ for version in 1 2; do
 done >"$room/wanted"
 try the_largest_network_is_told_back 0 "$room/wanted" "$room/stdin" plan
 try_in_pieces the_largest_network_is_told_back 0 "$room/wanted" "$room/stdin" plan
+try_late the_largest_network_is_told_back "$room/stdin" "$room/wanted" 1 2 2
 
 # A chain of the most routers, with names of 32 bytes and eight links of the greatest capacity
 # between each two neighbours, but seven between the first two: its tree, and the run that made it,

@@ -55,6 +55,7 @@ try_each_call() {
 try_late_peers() {
     try_each_call first_path 7 30
     try_each_call each_request_on_six_routers 64 30
+    try_each_call three_routers_in_a_row_as_a_certificate 16 40
     head -c 40 tests/cases/first_path/stdout >"$room/front"
     run_late tests/cases/first_path/stdin 4096 0 0 0 40
     judge 'first_path, with room for 40 bytes' "$?" 3 "$room/front"

@@ -6,7 +6,7 @@
 order_shows() {
     awk '!/^@/ { next }
         $2 == "LOADED" { routers[$1] = $4 }
-        $2 ~ /^(CUT|PATH|TREE|RUN|WEAKEST)$/ && routers[$1] > 2 { shows = 1 }
+        $2 ~ /^(CUT|PATH|TREE|RUN|WEAKEST|WITNESS|CERTIFICATE)$/ && routers[$1] > 2 { shows = 1 }
         END { exit !shows }' "$1"
 }
 
