@@ -33,7 +33,7 @@ $1 == "link" {
 
 END {
     for (i = 0; i < count; i++) {
-        if (word == "WEAKEST") {
+        if (word == "WEAKEST" || word == "CERTIFICATE") {
             print word
             continue
         }
