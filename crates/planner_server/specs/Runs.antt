@@ -91,8 +91,8 @@ pub record PlanRan (status : Status) (run : RunView) : Type 0 where
       → NoBye (items_of false taken) → (WriteFailed run → ⊥) → status ≡ TooLong
 
 -- A check of what the source tells as a certificate: it took bytes, and wrote the line of the verdict on them, as its
--- end says. Where nothing fails and the bytes that the source tells aren't too many, as fewer than MOST_BYTES never are,
--- that is the verdict on all of them, unless memory was wanted. There are no records.
+-- end says. Where nothing fails and the bytes that the source tells aren't too many, as fewer than MOST_BYTES never
+-- are, that is the verdict on all of them, unless memory was wanted. There are no records.
 pub record CheckRan (status : Status) (run : RunView) : Type 0 where
   pub end : CheckEnd
   pub status_is : status ≡ check_status end

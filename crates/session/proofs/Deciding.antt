@@ -28,7 +28,9 @@ bye_behind (Load text whole ∷ front) quiet = bye_behind front quiet
 bye_behind (Bye ∷ front) quiet = quiet
 
 -- What was sent: MOST_BYTES without a BYE, all of which were taken without an end.
-pub record IsLong (start now : Moment) (taken rest : List ℕ) : Type 0 where
+pub record IsLong (start now : Moment) : Type 0 where
+  pub taken : List ℕ
+  pub rest : List ℕ
   pub before : start.wire.left ≡ Some (taken ++ rest)
   pub after : now.wire.left ≡ Some rest
   pub many : length taken ≡ MOST_BYTES
@@ -36,26 +38,25 @@ pub record IsLong (start now : Moment) (taken rest : List ℕ) : Type 0 where
   pub quiet : NoBye (items_of false taken)
 
 -- MOST_BYTES without a BYE, and no end, are too many
-pub always_long : (end : SessionEnd) (alone : Bool) (start now : Moment) (taken rest : List ℕ)
-    → EndsAs end alone start now → IsLong start now taken rest → (end ≡ WriteFault → ⊥) → end ≡ TooLong
-always_long Done alone start now taken rest e long sound = absurd (complete e.why)
+pub always_long : (end : SessionEnd) (alone : Bool) (start now : Moment) → EndsAs end alone start now
+    → IsLong start now → (end ≡ WriteFault → ⊥) → end ≡ TooLong
+always_long Done alone start now e long sound = absurd (complete e.why)
   where
-    same : e.bytes ≡ taken
-    same = taken_is start.wire.left now.wire.left taken rest e.bytes long.before long.after e.gone
+    same : e.bytes ≡ long.taken
+    same = taken_is start.wire.left now.wire.left long.taken long.rest e.bytes long.before long.after e.gone
 
     complete : IsComplete now.wire e.bytes (items_of now.wire.ended e.bytes) → ⊥
     complete (inl (front, is)) =
-        let items : items_of false taken ≡ front ++ Bye ∷ [] =
+        let items : items_of false long.taken ≡ front ++ Bye ∷ [] =
         ap (items_of false) (sym same) ∙ ap (λ (b : Bool). items_of b e.bytes) (sym long.unmet) ∙ is in
         bye_behind front (subst NoBye items long.quiet)
     complete (inr over) = let e : true ≡ false = sym over.0 ∙ long.unmet in cc
-always_long ReadFault alone start now taken rest e long sound =
+always_long ReadFault alone start now e long sound =
     absurd (omega (
       arith,
       e.why.0,
-      ap length (taken_is start.wire.left now.wire.left taken rest e.bytes long.before
-          long.after e.gone),
+      ap length (taken_is start.wire.left now.wire.left long.taken long.rest e.bytes long.before long.after e.gone),
       long.many,
     ))
-always_long WriteFault alone start now taken rest e long sound = absurd (sound refl)
-always_long TooLong alone start now taken rest e long sound = refl
+always_long WriteFault alone start now e long sound = absurd (sound refl)
+always_long TooLong alone start now e long sound = refl

@@ -1,7 +1,6 @@
 pub mod Answering
 pub mod Apart
 pub mod CertificateReplies
-pub mod Completing
 pub mod Concluding
 pub mod Deciding
 pub mod Ending

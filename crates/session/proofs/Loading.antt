@@ -89,17 +89,22 @@ module _ {alone : Bool} {old new : Shelved} (look : IsLook alone old new) {reply
         })));
   }
 
+-- A record was published and has this version, and there are no more records than there may be.
+pub record Publishes (alone : Bool) (old new : Shelved) (added : RecordView) (version : ℕ) : Type 0 where
+  pub stands : IsPublishedAt alone old.seen new.seen added version
+  pub counted : new.published ≡ old.published + 1
+  pub few : length new.seen ≤ MOST_RECORDS
+
 -- a record was published, and the reply has its version
 pub stands_loads : {alone : Bool} {old new : Shelved} {reply : List ℕ} (added : RecordView) (version : ℕ)
-    → length new.seen ≤ MOST_RECORDS
-    → IsPublishedAt alone old.seen new.seen added version × (new.published ≡ old.published + 1)
-    → reply ≡ loaded_text version added.sheet.net → Loads alone old (Ok added.sheet) reply new
-stands_loads {old = old} added version few published told = let stands = published.0 in record {
+    → Publishes alone old new added version → reply ≡ loaded_text version added.sheet.net
+    → Loads alone old (Ok added.sheet) reply new
+stands_loads {old = old} added version published told = let stands = published.stands in record {
   loads = 1;
-  counted = published.1;
+  counted = published.counted;
   leads = record {
     grows = stands.grows;
-    few = few;
+    few = published.few;
     on = λ seen reached. record {
       last = version;
       reached = record { there = omega (arith, stands.last); last = λ only. sym stands.last };
@@ -189,14 +194,19 @@ module _ {alone : Bool} {old new : Shelved} {reply : List ℕ} (reader : Reading
           let f : w.fault ≡ fault = cc in
           by_want (subst (λ (g : TextFault). g.kind ≡ Memory) f w.memory)
 
+-- A whole text was loaded, and nothing is owed beside the run that tells so.
+pub record LoadsText (alone : Bool) (old new : Shelved) (text : List (List ℕ)) (work : Work Asked Carried) : Type 0
+  where
+    pub none : work.at.left ≡ 0
+    pub loads : Loads alone old (verdict_of text true) work.run new
+
 -- a line that ends a text was taken
 pub ended_taken : {alone : Bool} {old new : Shelved} (text : List (List ℕ)) (line : List ℕ) {work : Work Asked Carried}
-    → is_end line ≡ true → work.at.left ≡ 0 → Loads alone old (verdict_of text true) work.run new
-    → IsTaken alone old new (Some text) Between line work
-ended_taken {alone} {old} {new} text line {work} end none loads = record {
+    → is_end line ≡ true → LoadsText alone old new text work → IsTaken alone old new (Some text) Between line work
+ended_taken {alone} {old} {new} text line {work} end told = record {
   quiet = λ between passed load. absurd (cc);
   owing = subst (λ (items : List Item). Owing alone old new items work) (sym gives_is)
-      (run_owing work none (Loads-gives text true loads));
+      (run_owing work told.none (Loads-gives text true told.loads));
   left_open = subst (λ (m : Option (List (List ℕ))). HasOpen Between m) (sym next_is) tt;
 }
   where

@@ -37,7 +37,8 @@ use Rattle.wires.specs.declared.lazy.Got.{Got}
 use Rattle.wires.specs.declared.lazy.Got.TheVariants as got
 
 -- what was taken is the same where its parts are
-pub same_rest : (a b : Rest) → a.taken ≡ b.taken → a.over ≡ b.over → a.open_text ≡ b.open_text → a.bytes ≡ b.bytes → a ≡ b
+pub same_rest : (a b : Rest) → a.taken ≡ b.taken → a.over ≡ b.over → a.open_text ≡ b.open_text
+    → a.bytes ≡ b.bytes → a ≡ b
 same_rest a b p q r s =
     ap (λ (n : ℕ). record a { taken = n }) p
     ∙ ap (λ (o : Bool). record a { taken = b.taken; over = o }) q
@@ -45,26 +46,36 @@ same_rest a b p q r s =
     ∙ ap (λ (v : List ℕ). record { taken = b.taken; over = b.over; open_text = b.open_text; bytes = v }) s
 
 -- items are parted off alike where what was taken is the same
-Parts-same : (a b c d : Rest) (ended : Bool) (items : List Item) → a ≡ c → b ≡ d → Parts c d ended [] items
+Parts-same : (a b c d : Rest) (ended : Bool) (items : List Item) → (a ≡ c) × (b ≡ d) → Parts c d ended [] items
     → Parts a b ended [] items
-Parts-same a b c d ended items p q parts =
-    subst (λ (r : Rest). Parts r b ended [] items) (sym p) (subst (λ (r : Rest). Parts c r ended [] items) (sym q) parts)
+Parts-same a b c d ended items same parts =
+    subst (λ (r : Rest). Parts r b ended [] items) (sym same.0)
+    (subst (λ (r : Rest). Parts c r ended [] items) (sym same.1) parts)
+
+-- The session was on, is over now or still on, and took no byte in between.
+pub record WasOn (old new : Here) (bye : Bool) : Type 0 where
+  pub on : old.kept.over ≡ false
+  pub over : new.kept.over ≡ bye
+  pub count : new.kept.reader.taken ≡ old.kept.reader.taken
 
 -- An answer was begun: items were parted off of what was taken, and are owed their answers.
-pub record Began (alone : Bool) (old new : Here) (open_text : Option (List (List ℕ))) (bytes : List ℕ) : Type 0 where
-  pub open_text2 : Option (List (List ℕ))
-  pub bytes2 : List ℕ
-  pub items : List Item
-  pub one : length items ≤ 1
-  pub may : MayBe new open_text2 bytes2
-  pub wire : new.now.wire ≡ old.now.wire
-  pub parts : Parts (point_at old open_text bytes).rest (point_at new open_text2 bytes2).rest new.now.wire.ended [] items
-  pub owing : Owing alone old.now.shelf new.now.shelf items new.kept.work
+pub record Began (alone : Bool) (old new : Here) (open_text : Option (List (List ℕ))) (bytes : List ℕ) : Type 0
+  where
+    pub open_text2 : Option (List (List ℕ))
+    pub bytes2 : List ℕ
+    pub items : List Item
+    pub one : length items ≤ 1
+    pub may : MayBe new open_text2 bytes2
+    pub wire : new.now.wire ≡ old.now.wire
+    pub parts :
+        Parts (point_at old open_text bytes).rest (point_at new open_text2 bytes2).rest new.now.wire.ended [] items
+    pub owing : Owing alone old.now.shelf new.now.shelf items new.kept.work
 
 -- It was begun for the last line, and no byte is left.
-pub record BeganLast (alone : Bool) (old new : Here) (open_text : Option (List (List ℕ))) (bytes : List ℕ) : Type 0 where
-  pub answer : Began alone old new open_text bytes
-  pub none : answer.bytes2 ≡ []
+pub record BeganLast (alone : Bool) (old new : Here) (open_text : Option (List (List ℕ))) (bytes : List ℕ) : Type 0
+  where
+    pub answer : Began alone old new open_text bytes
+    pub none : answer.bytes2 ≡ []
 
 -- It was begun at the end of the input: no text is open then.
 pub record BeganEnd (alone : Bool) (old new : Here) (open_text : Option (List (List ℕ))) (bytes : List ℕ) : Type 0 where
@@ -126,11 +137,10 @@ module _ (P : Point Asked Carried → Type 0) (alone : Bool) (from : Point Asked
 module _ (alone : Bool) (old new : Here) (open_text : Option (List (List ℕ))) (bytes front : List ℕ)
     (may : MayBe old open_text bytes) (wire : new.now.wire ≡ old.now.wire) where
   -- a line that is no BYE was taken
-  line_taken : old.kept.over ≡ false → new.kept.reader.taken ≡ old.kept.reader.taken
-      → TakesLine bytes new.kept.reader → front ≡ new.kept.reader.line → new.kept.over ≡ false
+  line_taken : WasOn old new false → TakesLine bytes new.kept.reader → front ≡ new.kept.reader.line
       → IsTaken alone old.now.shelf new.now.shelf open_text new.kept.intake front new.kept.work
       → Began alone old new open_text bytes
-  line_taken on count takes is on2 t = record {
+  line_taken was takes is t = record {
     open_text2 = next_text open_text front;
     bytes2 = takes.behind;
     items = gives open_text front;
@@ -138,13 +148,13 @@ module _ (alone : Bool) (old new : Here) (open_text : Option (List (List ℕ))) 
     may = record {
       text = λ e. t.left_open;
       rest = takes.holds;
-      unmet = λ e. ap (λ (v : Wire). v.ended) wire ∙ may.unmet (sym count ∙ e);
+      unmet = λ e. ap (λ (v : Wire). v.ended) wire ∙ may.unmet (sym was.count ∙ e);
     };
     wire = wire;
     parts = let line = is ∙ takes.front in
         Parts-same _ _ (open_at old.kept.reader.taken open_text (takes.line ++ 10 ∷ takes.behind))
         (open_at old.kept.reader.taken (next_text open_text front) takes.behind) new.now.wire.ended
-        (gives open_text front) (same_rest _ _ refl on refl takes.is) (same_rest _ _ count on2 refl refl)
+        (gives open_text front) (same_rest _ _ refl was.on refl takes.is, same_rest _ _ was.count was.over refl refl)
         (subst (λ (f : List ℕ). Parts (open_at old.kept.reader.taken open_text (takes.line ++ 10 ∷ takes.behind))
         (open_at old.kept.reader.taken (next_text open_text f) takes.behind) new.now.wire.ended [] (gives open_text f))
         (sym line)
@@ -154,44 +164,41 @@ module _ (alone : Bool) (old new : Here) (open_text : Option (List (List ℕ))) 
   }
 
   -- a BYE was taken
-  bye_taken : old.kept.over ≡ false → new.kept.reader.taken ≡ old.kept.reader.taken
-      → TakesLine bytes new.kept.reader → front ≡ new.kept.reader.line → new.kept.over ≡ true
+  bye_taken : WasOn old new true → TakesLine bytes new.kept.reader → front ≡ new.kept.reader.line
       → IsByeTaken alone old.now.shelf new.now.shelf open_text front new.kept.work
       → Began alone old new open_text bytes
-  bye_taken on count takes is over t = record {
+  bye_taken was takes is t = record {
     open_text2 = open_text;
     bytes2 = takes.behind;
     items = Bye ∷ [];
     one = omega arith;
     may = record {
-      text = λ e. absurd (cc);
+      text = λ e. absurd (let over = was.over in cc);
       rest = takes.holds;
-      unmet = λ e. ap (λ (v : Wire). v.ended) wire ∙ may.unmet (sym count ∙ e);
+      unmet = λ e. ap (λ (v : Wire). v.ended) wire ∙ may.unmet (sym was.count ∙ e);
     };
     wire = wire;
     parts = Parts-same _ _ (open_at old.kept.reader.taken open_text (takes.line ++ 10 ∷ takes.behind))
         (over_at old.kept.reader.taken open_text takes.behind) new.now.wire.ended (Bye ∷ [])
-        (same_rest _ _ refl on refl takes.is) (same_rest _ _ count over refl refl)
+        (same_rest _ _ refl was.on refl takes.is, same_rest _ _ was.count was.over refl refl)
         (bye_parts old.kept.reader.taken open_text new.now.wire.ended takes.line takes.behind takes.clean t.between
         (subst IsByeLine (is ∙ takes.front) t.bye));
     owing = t.owing;
   }
 
   -- a whole line was taken
-  pub next_taken : (bye : Bool) → new.kept.over ≡ bye → old.kept.over ≡ false
-      → new.kept.reader.taken ≡ old.kept.reader.taken → TakesLine bytes new.kept.reader → front ≡ new.kept.reader.line
+  pub next_taken : (bye : Bool) → WasOn old new bye → TakesLine bytes new.kept.reader → front ≡ new.kept.reader.line
       → LineTaken bye alone old.now.shelf new.now.shelf open_text new.kept.intake front new.kept.work
       → Began alone old new open_text bytes
-  next_taken false o on count takes is t = line_taken on count takes is o t
-  next_taken true o on count takes is t = bye_taken on count takes is o t
+  next_taken false was takes is t = line_taken was takes is t
+  next_taken true was takes is t = bye_taken was takes is t
 
   -- the last line, behind which the input has ended, was taken, which is no BYE
-  last_line_taken : (b : ℕ) (line : List ℕ) → bytes ≡ b ∷ line → old.kept.over ≡ false
-      → new.kept.reader.taken ≡ old.kept.reader.taken → TakesLast bytes new.kept.reader
-      → front ≡ front_of (b ∷ line) → new.now.wire.ended ≡ true → new.kept.over ≡ false
+  last_line_taken : (b : ℕ) (line : List ℕ) → bytes ≡ b ∷ line → WasOn old new false → TakesLast bytes new.kept.reader
+      → front ≡ front_of (b ∷ line) → new.now.wire.ended ≡ true
       → IsTaken alone old.now.shelf new.now.shelf open_text new.kept.intake front new.kept.work
       → BeganLast alone old new open_text bytes
-  last_line_taken b line some on count takes is ended on2 t = record {
+  last_line_taken b line some was takes is ended t = record {
     answer = record {
       open_text2 = next_text open_text front;
       bytes2 = [];
@@ -200,12 +207,12 @@ module _ (alone : Bool) (old new : Here) (open_text : Option (List (List ℕ))) 
       may = record {
         text = λ e. t.left_open;
         rest = takes.holds;
-        unmet = λ e. ap (λ (v : Wire). v.ended) wire ∙ may.unmet (sym count ∙ e);
+        unmet = λ e. ap (λ (v : Wire). v.ended) wire ∙ may.unmet (sym was.count ∙ e);
       };
       wire = wire;
       parts = Parts-same _ _ (open_at old.kept.reader.taken open_text (b ∷ line))
           (open_at old.kept.reader.taken (next_text open_text front) []) new.now.wire.ended
-          (gives open_text front) (same_rest _ _ refl on refl some) (same_rest _ _ count on2 refl refl)
+          (gives open_text front) (same_rest _ _ refl was.on refl some, same_rest _ _ was.count was.over refl refl)
           (subst (λ (e : Bool). Parts (open_at old.kept.reader.taken open_text (b ∷ line))
           (open_at old.kept.reader.taken (next_text open_text front) []) e [] (gives open_text front)) (sym ended)
           (subst (λ (f : List ℕ). Parts (open_at old.kept.reader.taken open_text (b ∷ line))
@@ -218,26 +225,25 @@ module _ (alone : Bool) (old new : Here) (open_text : Option (List (List ℕ))) 
   }
 
   -- and which is a BYE
-  last_bye_taken : (b : ℕ) (line : List ℕ) → bytes ≡ b ∷ line → old.kept.over ≡ false
-      → new.kept.reader.taken ≡ old.kept.reader.taken → TakesLast bytes new.kept.reader
-      → front ≡ front_of (b ∷ line) → new.now.wire.ended ≡ true → new.kept.over ≡ true
+  last_bye_taken : (b : ℕ) (line : List ℕ) → bytes ≡ b ∷ line → WasOn old new true → TakesLast bytes new.kept.reader
+      → front ≡ front_of (b ∷ line) → new.now.wire.ended ≡ true
       → IsByeTaken alone old.now.shelf new.now.shelf open_text front new.kept.work
       → BeganLast alone old new open_text bytes
-  last_bye_taken b line some on count takes is ended over t = record {
+  last_bye_taken b line some was takes is ended t = record {
     answer = record {
       open_text2 = open_text;
       bytes2 = [];
       items = Bye ∷ [];
       one = omega arith;
       may = record {
-        text = λ e. absurd (cc);
+        text = λ e. absurd (let over = was.over in cc);
         rest = takes.holds;
-        unmet = λ e. ap (λ (v : Wire). v.ended) wire ∙ may.unmet (sym count ∙ e);
+        unmet = λ e. ap (λ (v : Wire). v.ended) wire ∙ may.unmet (sym was.count ∙ e);
       };
       wire = wire;
       parts = Parts-same _ _ (open_at old.kept.reader.taken open_text (b ∷ line))
           (over_at old.kept.reader.taken open_text []) new.now.wire.ended (Bye ∷ [])
-          (same_rest _ _ refl on refl some) (same_rest _ _ count over refl refl)
+          (same_rest _ _ refl was.on refl some, same_rest _ _ was.count was.over refl refl)
           (subst (λ (e : Bool). Parts (open_at old.kept.reader.taken open_text (b ∷ line))
           (over_at old.kept.reader.taken open_text []) e [] (Bye ∷ [])) (sym ended)
           (bye_last_parts old.kept.reader.taken open_text b line (subst NoFeed some takes.clean) t.between
@@ -248,32 +254,30 @@ module _ (alone : Bool) (old new : Here) (open_text : Option (List (List ℕ))) 
   }
 
   -- the last line was taken
-  pub last_taken : (bye : Bool) → new.kept.over ≡ bye → old.kept.over ≡ false
-      → new.kept.reader.taken ≡ old.kept.reader.taken → new.now.wire.ended ≡ true → TakesLast bytes new.kept.reader
+  pub last_taken : (bye : Bool) → WasOn old new bye → new.now.wire.ended ≡ true → TakesLast bytes new.kept.reader
       → front ≡ new.kept.reader.line
       → LineTaken bye alone old.now.shelf new.now.shelf open_text new.kept.intake front new.kept.work
       → BeganLast alone old new open_text bytes
-  last_taken bye o on count ended takes is t = of_bytes bytes refl
+  last_taken bye was ended takes is t = of_bytes bytes refl
     where
-      of_bye : (x : Bool) (b : ℕ) (line : List ℕ) → bytes ≡ b ∷ line → new.kept.over ≡ x
+      of_bye : (x : Bool) (b : ℕ) (line : List ℕ) → bytes ≡ b ∷ line → WasOn old new x
           → LineTaken x alone old.now.shelf new.now.shelf open_text new.kept.intake front new.kept.work
           → BeganLast alone old new open_text bytes
-      of_bye false b line some o t =
-          last_line_taken b line some on count takes (is ∙ takes.front ∙ ap front_of some) ended o t
-      of_bye true b line some o t =
-          last_bye_taken b line some on count takes (is ∙ takes.front ∙ ap front_of some) ended o t
+      of_bye false b line some was t =
+          last_line_taken b line some was takes (is ∙ takes.front ∙ ap front_of some) ended t
+      of_bye true b line some was t =
+          last_bye_taken b line some was takes (is ∙ takes.front ∙ ap front_of some) ended t
 
       of_bytes : (bs : List ℕ) → bytes ≡ bs → BeganLast alone old new open_text bytes
       of_bytes [] none = absurd (let some = takes.some in omega (arith, some, ap length none))
-      of_bytes (b ∷ line) some = of_bye bye b line some o t
+      of_bytes (b ∷ line) some = of_bye bye b line some was t
 
   -- the input was closed where no byte is left
-  pub end_taken : bytes ≡ [] → old.kept.over ≡ false → new.kept.over ≡ false
-      → new.kept.reader.taken ≡ old.kept.reader.taken → new.now.wire.ended ≡ true → Holds new.kept.reader []
+  pub end_taken : bytes ≡ [] → WasOn old new false → new.now.wire.ended ≡ true → Holds new.kept.reader []
       → HasOpen new.kept.intake None
       → Owing alone old.now.shelf new.now.shelf (items_from true open_text []) new.kept.work
       → BeganEnd alone old new open_text bytes
-  end_taken none on on2 count ended holds between owing = record {
+  end_taken none was ended holds between owing = record {
     answer = record {
       open_text2 = None;
       bytes2 = [];
@@ -282,12 +286,12 @@ module _ (alone : Bool) (old new : Here) (open_text : Option (List (List ℕ))) 
       may = record {
         text = λ e. between;
         rest = holds;
-        unmet = λ e. ap (λ (v : Wire). v.ended) wire ∙ may.unmet (sym count ∙ e);
+        unmet = λ e. ap (λ (v : Wire). v.ended) wire ∙ may.unmet (sym was.count ∙ e);
       };
       wire = wire;
       parts = Parts-same _ _ (open_at old.kept.reader.taken open_text []) (open_at old.kept.reader.taken None [])
-          new.now.wire.ended (items_from true open_text []) (same_rest _ _ refl on refl none)
-          (same_rest _ _ count on2 refl refl)
+          new.now.wire.ended (items_from true open_text [])
+          (same_rest _ _ refl was.on refl none, same_rest _ _ was.count was.over refl refl)
           (subst (λ (e : Bool). Parts (open_at old.kept.reader.taken open_text [])
           (open_at old.kept.reader.taken None []) e [] (items_from true open_text [])) (sym ended)
           (end_parts old.kept.reader.taken open_text));
@@ -315,7 +319,8 @@ parted alone from shelf wire kept reader w count tells = record {
   bytes = w.bytes;
   may = record { text = w.may.text; rest = tells.1; unmet = λ e. w.may.unmet (sym count ∙ e) };
   on = let at = point_at (here_at shelf wire kept) w.open_text w.bytes in
-      subst (λ (n : ℕ). Going ReportLine alone from (record at { rest = record at.rest { taken = n } })) (sym count) w.on;
+      subst (λ (n : ℕ). Going ReportLine alone from (record at { rest = record at.rest { taken = n } })) (sym count)
+      w.on;
   why = record { clean = tells.0 };
 }
 
@@ -366,7 +371,8 @@ module _ (alone : Bool) (from : Point Asked Carried) (shelf : Shelved) (wire wir
           unmet = λ e. reads.tells.met ∙ or_false wire.ended unmet;
         };
         on = goes_on ReportLine alone from at
-            (point_at (here_at shelf wire2 (record kept { reader = reader })) w.open_text (w.bytes ++ reader.bytes)) w.on
+            (point_at (here_at shelf wire2 (record kept { reader = reader })) w.open_text (w.bytes ++ reader.bytes))
+            w.on
             (subst (λ (n : ℕ). Stretch ReportLine alone at (record at {
               wire = wire2;
               rest = record at.rest { taken = n; bytes = w.bytes ++ reader.bytes };
@@ -470,7 +476,10 @@ module _ (alone : Bool) (from : Point Asked Carried) (here : Here) (idle : IsIdl
   spent_stops on spent w =
       let unmet = w.may.unmet spent in
       went_with IsPart (StopsBy (Ended TooLong)) alone from here w (
-        record { idle = idle; none = open_none (point_at here w.open_text w.bytes).rest here.now.wire.ended on unmet w.why.clean },
+        record {
+          idle = idle;
+          none = open_none (point_at here w.open_text w.bytes).rest here.now.wire.ended on unmet w.why.clean;
+        },
         on,
         unmet,
         spent,
@@ -479,7 +488,10 @@ module _ (alone : Bool) (from : Point Asked Carried) (here : Here) (idle : IsIdl
   -- the input has ended
   pub closed_stops : Went IsClosed alone from here → Went (StopsBy (Ended Done)) alone from here
   closed_stops w = went_with IsClosed (StopsBy (Ended Done)) alone from here w (
-    record { idle = idle; none = met_none (point_at here w.open_text w.bytes).rest here.now.wire.ended w.why.met.0 w.why.closed },
+    record {
+      idle = idle;
+      none = met_none (point_at here w.open_text w.bytes).rest here.now.wire.ended w.why.met.0 w.why.closed;
+    },
     inr w.why.met,
   )
 
@@ -521,7 +533,8 @@ gone_none alone here open_text bytes few may = record {
 -- the end of a reply in work, and of what is kept beside it
 pub put_may : (shelf : Shelved) (wire wire2 : Wire) (kept : Kept) (work : Work Asked Carried)
     (open_text : Option (List (List ℕ))) (bytes : List ℕ) → wire2.ended ≡ wire.ended
-    → MayBe (here_at shelf wire kept) open_text bytes → MayBe (here_at shelf wire2 (with_work kept work)) open_text bytes
+    → MayBe (here_at shelf wire kept) open_text bytes
+    → MayBe (here_at shelf wire2 (with_work kept work)) open_text bytes
 put_may shelf wire wire2 kept work open_text bytes same may = record {
   text = may.text;
   rest = may.rest;

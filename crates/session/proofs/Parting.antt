@@ -166,7 +166,8 @@ pub end_parts : (taken : ℕ) (text : Option (List (List ℕ)))
 end_parts taken text = record {
   count = omega arith;
   are = λ met more comes.
-      ap (λ m. items_on m text more) comes.0 ∙ ap (items_on true text) comes.1 ∙ sym (append-nil (items_from true text []))
+      ap (λ m. items_on m text more) comes.0 ∙ ap (items_on true text) comes.1
+      ∙ sym (append-nil (items_from true text []))
       ∙ ap (λ is. items_from true text [] ++ is)
       (ap (λ t. items_on true None t) (sym comes.1) ∙ ap (λ m. items_on m None more) (sym comes.0));
   over = λ e. absurd (cc);
@@ -179,7 +180,8 @@ end_parts taken text = record {
     quiet_end (Some t) = tt
 
 -- bytes without a line feed make no item while the input goes on
-pub open_items : (text : Option (List (List ℕ))) (bytes : List ℕ) → NoFeed bytes → items_on false text (bytes ++ []) ≡ []
+pub open_items : (text : Option (List (List ℕ))) (bytes : List ℕ) → NoFeed bytes
+    → items_on false text (bytes ++ []) ≡ []
 open_items text bytes clean =
     ap (items_on false text) (append-nil bytes) ∙ ap (items_from false text) (fronts_of-open bytes clean) ∙ nothing text
   where

@@ -24,7 +24,8 @@ use Rattle.wires.specs.declared.lazy.Taken.TheVariants as taken
 pub same_counts : (a b : Counts) → b.read_faults ≡ a.read_faults → b.write_faults ≡ a.write_faults
     → b.reads_not_yet ≡ a.reads_not_yet → b.puts_not_yet ≡ a.puts_not_yet → b ≡ a
 same_counts a b p q r s =
-    ap (λ (n : ℕ). record b { read_faults = n }) p ∙ ap (λ (n : ℕ). record b { read_faults = a.read_faults; write_faults = n }) q
+    ap (λ (n : ℕ). record b { read_faults = n }) p
+    ∙ ap (λ (n : ℕ). record b { read_faults = a.read_faults; write_faults = n }) q
     ∙ ap (λ (n : ℕ). record a { reads_not_yet = n; puts_not_yet = b.puts_not_yet }) r
     ∙ ap (λ (n : ℕ). record a { puts_not_yet = n }) s
 

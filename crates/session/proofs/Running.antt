@@ -124,16 +124,16 @@ pub record IsHeaded (seen : RecordView) (asked : Asked) : Type 0 where
   pub lays : LaysOut seen asked.version asked.request (headed head layout)
 
 -- The path that was found is one in the tree of a record.
-pub found_path : {tree : TreeView} {room children : List ℕ} (seen : RecordView) (a b : ℕ) → tree ≡ tree_of seen
-    → IsOrderedPath tree.net (up_of tree) a b room → children ≡ room
+pub found_path : {tree : TreeView} {children : List ℕ} (seen : RecordView) (a b : ℕ) → tree ≡ tree_of seen
+    → (room : List ℕ) × IsOrderedPath tree.net (up_of tree) a b room × (children ≡ room)
     → IsOrderedPath seen.sheet.net (up_of (tree_of seen)) a b children
-found_path {tree} {room} {children} seen a b same path is =
+found_path seen a b same (room, path, is) =
     subst (λ (cs : List ℕ). IsOrderedPath seen.sheet.net (up_of (tree_of seen)) a b cs) (sym is)
     (subst (λ (t : TreeView). IsOrderedPath t.net (up_of t) a b room) same path)
 
 -- The flows of a path are laid out for the request that asks for them.
-abbrev pub witness_lays : (seen : RecordView) (asked : Asked) (a b : ℕ) (children : List ℕ) → asked.request ≡ Witness a b
-    → IsOrderedPath seen.sheet.net (up_of (tree_of seen)) a b children
+abbrev pub witness_lays : (seen : RecordView) (asked : Asked) (a b : ℕ) (children : List ℕ)
+    → asked.request ≡ Witness a b → IsOrderedPath seen.sheet.net (up_of (tree_of seen)) a b children
     → IsHeaded seen asked
 witness_lays seen asked a b children is path =
     let layout = witness_reply asked.version seen.sheet.net children in

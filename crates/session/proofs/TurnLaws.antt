@@ -19,7 +19,8 @@ went_on P Q alone from mid here w h = record {
   open_text = h.open_text;
   bytes = h.bytes;
   may = h.may;
-  on = Going-join ReportLine alone from (point_at mid w.open_text w.bytes) (point_at here h.open_text h.bytes) w.on h.on;
+  on = Going-join ReportLine alone from (point_at mid w.open_text w.bytes) (point_at here h.open_text h.bytes) w.on
+      h.on;
   why = h.why;
 }
 

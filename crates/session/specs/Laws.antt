@@ -30,13 +30,18 @@ TurnsJoin =
     → (w : TurnGoes NotYet alone from mid) → TurnGoes turn alone (point_at mid w.open_text w.bytes) here
     → TurnGoes turn alone from here
 
+-- A start at which nothing was done, and what is kept where turns from it have come to.
+pub record IsBegun (from : Point Asked Carried) (here : Here) : Type 0 where
+  pub fresh : IsFresh from
+  pub few : length from.shelf.seen ≤ MOST_RECORDS
+  pub most : here.kept.reader.taken ≤ MOST_BYTES
+  pub held : IsHeld here.now.shelf.seen here.kept.work
+
 -- What turns did from a fresh start until one ended is a session that ended so.
 abbrev pub TurnsAreASession : Type 0
 TurnsAreASession =
-    (end : SessionEnd) (alone : Bool) (from : Point Asked Carried) (here : Here) → IsFresh from
-    → length from.shelf.seen ≤ MOST_RECORDS → here.kept.reader.taken ≤ MOST_BYTES
-    → IsHeld here.now.shelf.seen here.kept.work → TurnGoes (Ended end) alone from here
-    → EndsAs end alone (moment from.shelf from.wire) here.now
+    (end : SessionEnd) (alone : Bool) (from : Point Asked Carried) (here : Here) → IsBegun from here
+    → TurnGoes (Ended end) alone from here → EndsAs end alone (moment from.shelf from.wire) here.now
 
 -- Where others publish on a list between two turns, what the turn before did is still what one turn might have done:
 -- it saw what they published, and published nothing by that.
@@ -63,8 +68,8 @@ WitnessIsNoLessThanCut =
     (seen : RecordView) (version a b : ℕ) (witness cut : List ℕ) → AnswersFrom seen version (Witness a b) witness
     → AnswersFrom seen version (Cut a b) cut → TellsNoLess seen version a b witness cut
 
--- A reply to CERTIFICATE is accepted with its first line, whatever stands behind it, and what is accepted is the tree of
--- its record. The record of each version on a shelf has such a sheet and such a tree.
+-- A reply to CERTIFICATE is accepted with its first line, whatever stands behind it, and what is accepted is the tree
+-- of its record. The record of each version on a shelf has such a sheet and such a tree.
 abbrev pub CertificateIsAccepted : Type 0
 CertificateIsAccepted =
     (seen : RecordView) (version : ℕ) (reply more : List ℕ) (ended : Bool) → version ≤ MOST_RECORDS

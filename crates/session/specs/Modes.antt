@@ -46,8 +46,8 @@ pub record Gives (alone : Bool) (old : Shelved) (items : List Item) (text : List
   pub leads : LeadsOn alone old.seen new.seen (λ seen next. Answers alone new.seen seen items text next loads)
 
 -- A network with this verdict was loaded, and this is the reply.
-pub record Loads (alone : Bool) (old : Shelved) (verdict : Result SheetView TextFault) (reply : List ℕ) (new : Shelved) :
-    Type 0 where
+pub record Loads (alone : Bool) (old : Shelved) (verdict : Result SheetView TextFault) (reply : List ℕ)
+    (new : Shelved) : Type 0 where
   pub loads : ℕ
   pub counted : new.published ≡ old.published + loads
   pub leads : LeadsOn alone old.seen new.seen (λ seen next. LoadStep alone new.seen seen verdict reply next loads)

@@ -83,7 +83,8 @@ pub record IsWithin (seen : RecordView) (layout : Layout) (at : Spot Carried) : 
   pub places : at.place + at.left ≡ size_in seen layout
   pub fits : Fits (tree_of seen) layout at.place at.carry
 
--- A run leads from a spot of what is laid out to a later one. Where a line is left at the first, its line is in the run.
+-- A run leads from a spot of what is laid out to a later one. Where a line is left at the first, its line is in the
+-- run.
 pub record Fills (seen : RecordView) (layout : Layout) (from : Spot Carried) (run : List ℕ) (to : Spot Carried) : Type 0
   where
     pub leads : Leads Carried (LineIn seen layout) from run to

@@ -29,8 +29,8 @@ pub struct Asked {
 }
 
 /// The reply in work: a run of its lines that wasn't taken yet, and for one from a record what was asked, the place
-/// behind the run and how many lines are left from there on; and the rooms in which paths and flows are found. Contracts
-/// see the `Work`. Only the making takes memory.
+/// behind the run and how many lines are left from there on; and the rooms in which paths and flows are found.
+/// Contracts see the `Work`. Only the making takes memory.
 #[derive(Drop)]
 pub struct Desk {
     run: LineRun,
@@ -148,8 +148,8 @@ impl Desk {
         write_bye(version, &mut self.run).unwrap();
     }
 
-    /// Begins the reply to a request from the record of a version: finds what it tells, and fills the run with its first
-    /// lines.
+    /// Begins the reply to a request from the record of a version: finds what it tells, and fills the run with its
+    /// first lines.
     pub fn report(&mut self, version: u32, made: &Record, request: &Request)
         requires needs { IsTrue (needs_record request.now) }
         requires of { IsOf (Some made.now.sheet) request.now }

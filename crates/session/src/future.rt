@@ -91,9 +91,9 @@ impl<'a, R: Threads + Wait + Sync, H: Shelf, P: Belled, G: Gate + Sync> TaskFutu
         }
     }
 
-    /// Makes one turn, and arms the context where the peer isn't ready. Once the session has ended, it makes no turn and
-    /// gives the same end. This is the `poll` of a [`Future`](futures::Future): `poll_fn(|cx| future.poll(cx))` is one,
-    /// where its closure requires what `poll` does.
+    /// Makes one turn, and arms the context where the peer isn't ready. Once the session has ended, it makes no turn
+    /// and gives the same end. This is the `poll` of a [`Future`](futures::Future): `poll_fn(|cx| future.poll(cx))` is
+    /// one, where its closure requires what `poll` does.
     pub fn poll(&mut self, cx: &mut Context<'_>) -> Poll<SessionEnd>
         requires can { CanTurn (H.seen self.old.shelf.now) self.old.task }
         ensures goes { (open_text : Option (List (List ℕ))) (bytes : List ℕ) → self.old.task.ended ≡ None

@@ -24,8 +24,8 @@ pub fn a_witness_is_no_less_than_the_cut()
     ensures { WitnessIsNoLessThanCut }
 {}
 
-/// What CERTIFICATE tells is accepted by [`check`](certifier::check), its first line included, and whatever stands behind
-/// it: it is the certificate of the tree of its record.
+/// What CERTIFICATE tells is accepted by [`check`](certifier::check), its first line included, and whatever stands
+/// behind it: it is the certificate of the tree of its record.
 pub fn a_certificate_is_accepted()
     ensures { CertificateIsAccepted }
 {}

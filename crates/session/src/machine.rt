@@ -125,7 +125,8 @@ impl Session {
         requires empty { self.old.reader.bytes ≡ [] }
         ensures goes { (from : Point Asked Carried)
             → Went IsMet (H.alone shelf.old) from (here_at (shelved H.Shelf shelf.old) (P.wire peer.old) self.old)
-            → TurnGoes result (H.alone shelf.old) from (here_at (shelved H.Shelf shelf.new) (P.wire peer.new) self.new) }
+            → TurnGoes result (H.alone shelf.old) from
+            (here_at (shelved H.Shelf shelf.new) (P.wire peer.new) self.new) }
         ensures held { IsHeld (H.seen shelf.new) self.new.work }
         ensures counts { TurnCounts result (is_owed self.new.work) (P.counts peer.old) (P.counts peer.new) }
         ensures alone { H.alone shelf.new ≡ H.alone shelf.old }
@@ -148,7 +149,8 @@ impl Session {
         requires idle { IsIdle self.old.work }
         ensures goes { (from : Point Asked Carried)
             → Gone (H.alone shelf.old) from (here_at (shelved H.Shelf shelf.old) (P.wire peer.old) self.old)
-            → StepGoes result (H.alone shelf.old) from (here_at (shelved H.Shelf shelf.new) (P.wire peer.new) self.new) }
+            → StepGoes result (H.alone shelf.old) from
+            (here_at (shelved H.Shelf shelf.new) (P.wire peer.new) self.new) }
         ensures held { IsHeld (H.seen shelf.new) self.new.work }
         ensures fewer { result ≡ None → to_do self.new.reader < to_do self.old.reader }
         ensures counts { StepCounts result (is_owed self.new.work) (P.counts peer.old) (P.counts peer.new) }

@@ -15,7 +15,8 @@ returns-then-from-eq0 c =
     let asked = c.args.asked.now in
     let ends = c.args.ends in
     let children = c.children-children.result.now in
-    let path = found_path made ends.0 ends.1 c.finished.ensures.value c.path.ensures.path c.children-children.ensures in
+    let path = found_path made ends.0 ends.1 c.finished.ensures.value
+    (_, c.path.ensures.path, c.children-children.ensures) in
     let h = witness_lays made asked ends.0 ends.1 children c.requires.is path in
     let count = c.witness_line_count-count.ensures
     ∙ ap (λ (s : SheetView). layout_size s.net (witness_layout children)) c.sheet-then-from-eq0.ensures in
@@ -32,7 +33,8 @@ invariant_of-lines c =
     let made = c.args.made.now in
     let ends = c.args.ends in
     let children = c.children-children.result.now in
-    let path = found_path made ends.0 ends.1 c.finished.ensures.value c.path.ensures.path c.children-children.ensures in
+    let path = found_path made ends.0 ends.1 c.finished.ensures.value
+    (_, c.path.ensures.path, c.children-children.ensures) in
     let routers = c.net.ensures.sheet.limits.few_routers in
     let same = ap (λ (s : SheetView). s.net.routers) c.sheet.ensures in
     let tree = ap (λ (t : TreeView). t.net.routers) c.finished.ensures.value in record {
@@ -50,7 +52,8 @@ run_lines-reached-requires-clause-within c =
     let asked = c.args.asked.now in
     let ends = c.args.ends in
     let children = c.children-children.result.now in
-    let path = found_path made ends.0 ends.1 c.finished.ensures.value c.path.ensures.path c.children-children.ensures in
+    let path = found_path made ends.0 ends.1 c.finished.ensures.value
+    (_, c.path.ensures.path, c.children-children.ensures) in
     let h = witness_lays made asked ends.0 ends.1 children c.requires.is path in
     subst (λ (t : TreeView). c.args.from - 1 ≤ layout_size t.net (witness_layout children))
     (sym c.finished-2.ensures.value)
@@ -62,7 +65,8 @@ run_lines-reached-requires-clause-fits c =
     let asked = c.args.asked.now in
     let ends = c.args.ends in
     let children = c.children-children.result.now in
-    let path = found_path made ends.0 ends.1 c.finished.ensures.value c.path.ensures.path c.children-children.ensures in
+    let path = found_path made ends.0 ends.1 c.finished.ensures.value
+    (_, c.path.ensures.path, c.children-children.ensures) in
     let h = witness_lays made asked ends.0 ends.1 children c.requires.is path in
     subst (λ (t : TreeView). Fits t (witness_layout children) (c.args.from - 1) c.args.rooms.now.flows)
     (sym c.finished-2.ensures.value)
@@ -74,7 +78,8 @@ returns c =
     let asked = c.args.asked.now in
     let ends = c.args.ends in
     let children = c.children-children.result.now in
-    let path = found_path made ends.0 ends.1 c.finished.ensures.value c.path.ensures.path c.children-children.ensures in
+    let path = found_path made ends.0 ends.1 c.finished.ensures.value
+    (_, c.path.ensures.path, c.children-children.ensures) in
     let h = witness_lays made asked ends.0 ends.1 children c.requires.is path in
     behind_tells made asked h c.args.from c.args.rooms.now.flows c.run_lines-reached.new.run.rest
     (record {

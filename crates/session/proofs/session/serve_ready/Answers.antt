@@ -17,9 +17,12 @@ returns-clause-ends g c =
     let none = ap (λ (r : Buffered). r.taken) anew.reader in
     turn_ends c.in-Ended.end (g.H.Shelf.alone c.args.shelf.now) (point_at old None [])
     (here_at (shelved g.H.Shelf c.turn-turn.new.shelf) (g.P.LazyPeer.wire c.turn-turn.new.peer) c.turn-turn.new.self)
-    (record { idle = anew.idle; rest = same_rest _ _ none anew.on refl refl }) (g.H.Shelf.few c.args.shelf.now)
-    (subst (λ (k : Kept). k.reader.taken ≤ MOST_BYTES) c.session.view_is c.session.invariant.1)
-    c.in-Ended.ensures.held
+    (record {
+      fresh = record { idle = anew.idle; rest = same_rest _ _ none anew.on refl refl };
+      few = g.H.Shelf.few c.args.shelf.now;
+      most = subst (λ (k : Kept). k.reader.taken ≤ MOST_BYTES) c.session.view_is c.session.invariant.1;
+      held = c.in-Ended.ensures.held;
+    })
     (c.in-Ended.ensures.goes None [] (record {
       text = λ e. anew.between;
       rest = anew.holds;
@@ -30,6 +33,14 @@ pub returns-clause-always_too_long : goal.returns-clause-always_too_long
 returns-clause-always_too_long g c = λ taken rest before after many unmet quiet sound.
     always_long c.in-Ended.end (g.H.Shelf.alone c.args.shelf.now)
     (moment (shelved g.H.Shelf c.args.shelf.now) (g.P.LazyPeer.wire c.args.peer.now))
-    (moment (shelved g.H.Shelf c.turn-turn.new.shelf) (g.P.LazyPeer.wire c.turn-turn.new.peer)) taken rest
+    (moment (shelved g.H.Shelf c.turn-turn.new.shelf) (g.P.LazyPeer.wire c.turn-turn.new.peer))
     (returns-clause-ends g c)
-    (record { before = before; after = after; many = many; unmet = unmet; quiet = quiet }) sound
+    (record {
+      taken = taken;
+      rest = rest;
+      before = before;
+      after = after;
+      many = many;
+      unmet = unmet;
+      quiet = quiet;
+    }) sound

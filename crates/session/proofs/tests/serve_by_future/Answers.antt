@@ -17,12 +17,13 @@ armed (Ready x) cx needs covers = tt
 armed Pending cx needs covers = covers.0
 
 module _ {F A : Type 0} (g : Poller F A) (Can : F → Type 0)
-    (keeps : (p : F) (cx left : MutBor Context) (q : F) → Can p → Called g p (cx, tt) (Pending, (left, tt)) q → Can q) where
-  -- pending calls lead from a state that can be polled to such states
-  reached : (before : List (MutBor Context)) (p q : F) → Can p → Waited g p before q → Can q
-  reached [] p q can waited = subst Can waited can
-  reached (cx ∷ before) p q can waited =
-      reached before waited.0 q (keeps p cx waited.1.0 waited.0 can waited.1.1) waited.2
+    (keeps : (p : F) (cx left : MutBor Context) (q : F) → Can p → Called g p (cx, tt) (Pending, (left, tt)) q → Can q)
+  where
+    -- pending calls lead from a state that can be polled to such states
+    reached : (before : List (MutBor Context)) (p q : F) → Can p → Waited g p before q → Can q
+    reached [] p q can waited = subst Can waited can
+    reached (cx ∷ before) p q can waited =
+        reached before waited.0 q (keeps p cx waited.1.0 waited.0 can waited.1.1) waited.2
 
 pub block_on-requires : goal.block_on-requires
 block_on-requires g c = record {

@@ -20,7 +20,8 @@ puts-init g c = record {
 pub puts-preserved : goal.puts-preserved
 puts-preserved g c = record {
   on = λ alone shelf rest few. put_goes alone shelf rest _
-      (record { wire = g.P.LazyPeer.wire c.puts.peer; work = c.puts.self }) few (c.puts.invariant.on alone shelf rest few)
+      (record { wire = g.P.LazyPeer.wire c.puts.peer; work = c.puts.self }) few
+      (c.puts.invariant.on alone shelf rest few)
       (g.P.LazyPeer.wire c.put_now.new.self) c.pass.new.self c.in-Bytes.count c.rest-rest.result.now c.rest-rest.ensures
       c.in-Bytes.ensures.tells
       (record { run = c.pass.ensures.run; reply = c.pass.ensures.reply; at = c.pass.ensures.at });

@@ -23,8 +23,9 @@ returns-then-not-last_line-clause-goes g c = λ from wire met.
       over = c.self.inside.over;
       work = c.close_input.new.self.desk;
     }) in
-    let b = end_taken alone _ new w.open_text w.bytes [] w.may refl tells.0 on on c.if-not-last_line.ensures.taken
-    w.why.met.0 tells.1 c.close_input.ensures.closed (c.close_input.ensures.owing w.open_text (w.may.text on)) in
+    let b = end_taken alone _ new w.open_text w.bytes [] w.may refl tells.0
+    (record { on = on; over = on; count = c.if-not-last_line.ensures.taken }) w.why.met.0 tells.1
+    c.close_input.ensures.closed (c.close_input.ensures.owing w.open_text (w.may.text on)) in
     began IsMet alone from _ w new idle b.answer IsClosed
     (record { met = w.why.met; closed = inr (record { between = b.between; none = b.none }) })
 
@@ -41,9 +42,9 @@ returns-then-self-clause-goes g c = λ from wire met.
       over = c.take_line-self-inside.result;
       work = c.take_line-self-inside.new.self.desk;
     }) in
-    let b = last_taken alone _ new w.open_text w.bytes c.line.result.now w.may refl c.take_line-self-inside.result refl
-    on c.if-not-last_line.ensures.taken w.why.met.0 (c.if-not-last_line.ensures.tells w.bytes w.may.rest)
-    c.line.ensures.bytes (c.take_line-self-inside.ensures.taken w.open_text (w.may.text on)) in
+    let b = last_taken alone _ new w.open_text w.bytes c.line.result.now w.may refl c.take_line-self-inside.result
+    (record { on = on; over = refl; count = c.if-not-last_line.ensures.taken }) w.why.met.0
+    (c.if-not-last_line.ensures.tells w.bytes w.may.rest) c.line.ensures.bytes (c.take_line-self-inside.ensures.taken w.open_text (w.may.text on)) in
     began IsMet alone from _ w new idle b.answer IsClosed (record { met = w.why.met; closed = inl c.if-self.true })
 
 pub returns-else-is_idle-clause-goes : goal.returns-else-is_idle-clause-goes
@@ -59,10 +60,11 @@ returns-else-is_idle-clause-goes g c = λ from wire met.
       over = c.take_line-self-inside.result;
       work = c.take_line-self-inside.new.self.desk;
     }) in
-    let b = last_taken alone _ new w.open_text w.bytes c.line.result.now w.may refl c.take_line-self-inside.result refl
-    on c.if-not-last_line.ensures.taken w.why.met.0 (c.if-not-last_line.ensures.tells w.bytes w.may.rest)
-    c.line.ensures.bytes (c.take_line-self-inside.ensures.taken w.open_text (w.may.text on)) in
-    let between = owed_between _ _ c.take_line-self-inside.ensures.between (c.is_idle.ensures.owed c.if-is_idle.false) in
+    let b = last_taken alone _ new w.open_text w.bytes c.line.result.now w.may refl c.take_line-self-inside.result
+    (record { on = on; over = refl; count = c.if-not-last_line.ensures.taken }) w.why.met.0
+    (c.if-not-last_line.ensures.tells w.bytes w.may.rest) c.line.ensures.bytes (c.take_line-self-inside.ensures.taken w.open_text (w.may.text on)) in
+    let between = owed_between _ _ c.take_line-self-inside.ensures.between
+    (c.is_idle.ensures.owed c.if-is_idle.false) in
     began IsMet alone from _ w new idle b.answer IsClosed (record {
       met = w.why.met;
       closed = inr (record {
@@ -91,15 +93,15 @@ returns-then-is_idle-clause-goes g c = λ from wire met.
       over = c.take_line-self-inside.result;
       work = c.close_input-then-is_idle.new.self.desk;
     }) in
-    let b = last_taken alone _ mid w.open_text w.bytes c.line.result.now w.may refl c.take_line-self-inside.result refl
-    on c.if-not-last_line.ensures.taken w.why.met.0 (c.if-not-last_line.ensures.tells w.bytes w.may.rest)
-    c.line.ensures.bytes (c.take_line-self-inside.ensures.taken w.open_text (w.may.text on)) in
+    let b = last_taken alone _ mid w.open_text w.bytes c.line.result.now w.may refl c.take_line-self-inside.result
+    (record { on = on; over = refl; count = c.if-not-last_line.ensures.taken }) w.why.met.0
+    (c.if-not-last_line.ensures.tells w.bytes w.may.rest) c.line.ensures.bytes (c.take_line-self-inside.ensures.taken w.open_text (w.may.text on)) in
     let v = began IsMet alone from _ w mid idle b.answer IsDry (record { met = w.why.met; none = b.none }) in
     let owing = subst (λ (a : Bool). Owing a mid.now.shelf new.now.shelf (items_from true v.open_text []) new.kept.work)
     c.take_line-self-inside.ensures.alone
     (c.close_input-then-is_idle.ensures.owing v.open_text (v.may.text c.if-self.false)) in
-    let e = end_taken alone mid new v.open_text v.bytes [] v.may refl v.why.none c.if-self.false c.if-self.false refl
-    v.why.met.0 (subst (Holds c.last_line.new.self) v.why.none v.may.rest)
-    c.close_input-then-is_idle.ensures.closed owing in
+    let e = end_taken alone mid new v.open_text v.bytes [] v.may refl v.why.none
+    (record { on = c.if-self.false; over = c.if-self.false; count = refl }) v.why.met.0
+    (subst (Holds c.last_line.new.self) v.why.none v.may.rest) c.close_input-then-is_idle.ensures.closed owing in
     began IsDry alone from mid v new (c.is_idle.ensures.idle c.if-is_idle.true) e.answer IsClosed
     (record { met = v.why.met; closed = inr (record { between = e.between; none = e.none }) })

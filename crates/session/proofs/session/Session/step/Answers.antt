@@ -36,7 +36,8 @@ returns-in-End-clause-goes g c = λ from gone.
     let w = c.if-next_line.ensures.goes from wire gone in
     let met = c.in-End.ensures.goes alone shelf from (g.H.Shelf.few c.next_line.new.shelf) w in
     let here = here_at shelf (g.P.LazyPeer.wire c.read.new.peer) c.read.new.self in
-    let here2 = here_at (shelved g.H.Shelf c.finish.new.shelf) (g.P.LazyPeer.wire c.finish.new.peer) c.finish.new.self in
+    let here2 = here_at (shelved g.H.Shelf c.finish.new.shelf) (g.P.LazyPeer.wire c.finish.new.peer)
+    c.finish.new.self in
     subst (λ (a : Bool). Went IsMet a from here → TurnGoes c.finish.result a from here2) c.next_line.ensures.alone
     (c.finish.ensures.goes from) met
 

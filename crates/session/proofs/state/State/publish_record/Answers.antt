@@ -7,7 +7,8 @@ use Rattle.session.proofs.state.State.publish_record.Goals as goal
 pub returns-in-Ok-clause-loads : goal.returns-in-Ok-clause-loads
 returns-in-Ok-clause-loads g c =
     let published = c.in-Ok.ensures.published in
-    stands_loads (arc_value c.args.new) c.in-Ok.version (g.H.Shelf.few c.publish.new.self) published
+    stands_loads (arc_value c.args.new) c.in-Ok.version
+    (record { stands = published.0; counted = published.1; few = g.H.Shelf.few c.publish.new.self })
     (c.tell_loaded.ensures.reply (arc_value c.args.new) published.0.place)
 
 pub returns-in-Err-Full-clause-loads : goal.returns-in-Err-Full-clause-loads

@@ -10,5 +10,7 @@ returns-in-More-clause-taken g c = λ text read.
 
 pub returns-in-Ended-clause-taken : goal.returns-in-Ended-clause-taken
 returns-in-Ended-clause-taken g c = λ text read.
-    ended_taken text c.args.line.now (c.in-Ended.ensures.ended refl).0 c.end_text.ensures.whole
-    (rw (c.in-Ended.ensures.ended refl).1 at c.end_text.ensures.loads text read)
+    ended_taken text c.args.line.now (c.in-Ended.ensures.ended refl).0 (record {
+      none = c.end_text.ensures.whole;
+      loads = rw (c.in-Ended.ensures.ended refl).1 at c.end_text.ensures.loads text read;
+    })
