@@ -1,15 +1,15 @@
 -- A reply that tells a certificate is accepted with its first line.
-use Rattle.std.proofs.Common.{◌≡◌, ℕ, zero, suc, ◌+◌, ◌≤◌, ◌<◌, List, [], ◌∷◌, ◌++◌, Bool, true, false, length, refl}
-use Rattle.std.proofs.Common.{sym, ap, ◌∙◌, arith, append_assoc, subst, add-one, inl, inr}
+use Rattle.std.proofs.Common.{◌≡◌, ℕ, zero, suc, ◌+◌, List, [], ◌∷◌, ◌++◌, Bool, true, false, length, refl}
+use Rattle.std.proofs.Common.{ap, ◌∙◌, arith, append_assoc, add-one, inl, inr}
 use Rattle.std.proofs.lemmas.Bool.{le-ltb}
 use Rattle.text_forms.specs.declared.lines.TheConstants.{MOST_LINE_BYTES}
 use Rattle.text_forms.specs.Words.{is_passed, line_words}
 use Rattle.text_forms.proofs.Written.{IsLineOf}
 use Rattle.reply_lines.specs.Tails.{Tail}
-use Rattle.tree_state.specs.Views.{TreeView, up_of, width_of}
-use Rattle.certifier.specs.Accepting.{AcceptsTree, IsHead, ReplyIsAccepted}
-use Rattle.certifier.specs.Blocks.{Carried, Layout, LayoutLine, certificate_layout, headed, layout_size}
-use Rattle.certifier.specs.Certificates.{GoesOn, Title, take_line, verdict_by}
+use Rattle.tree_state.specs.Views.{TreeView}
+use Rattle.certifier.specs.Accepting.{IsHead, ReplyIsAccepted}
+use Rattle.certifier.specs.Blocks.{Carried, Layout, LayoutLine, certificate_layout, headed}
+use Rattle.certifier.specs.Certificates.{GoesOn, Title, take_line}
 use Rattle.certifier.proofs.Places.{front_line}
 use Rattle.certifier.proofs.Reread.{accepted_behind}
 use Rattle.certifier.proofs.RereadLines.{read, read-on}

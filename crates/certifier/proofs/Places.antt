@@ -1,12 +1,12 @@
 -- Each place of a layout holds one line: of what stands in front, of a block, or of what stands behind.
-use Rattle.std.proofs.Common.{◌≡◌, ℕ, suc, ◌+◌, ◌*◌, ◌≤◌, ◌<◌, List, length, refl, sym, ap, ◌∙◌, arith, inl, inr}
+use Rattle.std.proofs.Common.{◌≡◌, ℕ, suc, ◌+◌, ◌*◌, ◌≤◌, ◌<◌, List, length, ap, arith, inl, inr}
 use Rattle.std.proofs.Math.Nat.{mul-le-mul, suc-mul}
 use Rattle.std.proofs.lemmas.Bool.{cases_lt}
 use Rattle.std.specs.Prelude.{slice_index}
 use Rattle.cut_model.specs.Net.{Net}
 use Rattle.reply_lines.specs.Tails.{KnownLine}
 use Rattle.tree_state.specs.Views.{TreeView}
-use Rattle.certifier.specs.Blocks.{BlockLine, Carried, InBack, InBlock, InFront, Layout, LayoutLine, back_place}
+use Rattle.certifier.specs.Blocks.{BlockLine, Carried, Layout, LayoutLine, back_place}
 use Rattle.certifier.specs.Blocks.{block_place, block_size}
 
 -- What is in a block before another one stands before it.

@@ -1,15 +1,13 @@
 -- What is written as the certificate of a cut tree is accepted, whichever flows it tells.
-use Rattle.std.proofs.Common.{◌≡◌, ℕ, ◌+◌, ◌-◌, ◌<◌, List, [], ◌++◌, Bool, length, refl, sym, ap, ◌∙◌, arith}
+use Rattle.std.proofs.Common.{◌≡◌, ℕ, ◌-◌, List, [], ◌++◌, Bool, length, sym, ap, ◌∙◌, arith}
 use Rattle.std.proofs.Common.{append_assoc, subst}
 use Rattle.std.specs.List.{concat}
 use Rattle.cut_model.specs.Net.{Net}
-use Rattle.cut_model.specs.Terminals.{root_of}
 use Rattle.cut_model.proofs.Terminals.{root-lt}
 use Rattle.network_text.specs.Sheets.{IsSheet, SheetView}
 use Rattle.tree_state.specs.Views.{HoldsCutTree, TreeView, up_of, width_of}
-use Rattle.tree_state.specs.declared.entry.Entry.{Entry}
 use Rattle.certifier.specs.Accepting.{AcceptsTree, WrittenIsAccepted}
-use Rattle.certifier.specs.Blocks.{Carried, IsLaidOut, certificate_layout}
+use Rattle.certifier.specs.Blocks.{Carried, certificate_layout}
 use Rattle.certifier.specs.Certificates.{Title}
 use Rattle.certifier.proofs.RereadBlocks.{Given, read-blocks, tree_on}
 use Rattle.certifier.proofs.RereadFront.{read-front}

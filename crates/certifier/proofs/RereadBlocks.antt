@@ -1,8 +1,8 @@
 -- The blocks of a written certificate are taken one after the other, and its tree is accepted.
-use Rattle.std.proofs.Common.{◌≡◌, ◌≢◌, ℕ, zero, suc, ◌+◌, ◌-◌, ◌*◌, ◌≤◌, ◌<◌, List, [], ◌∷◌, ◌++◌, Bool, length, map}
+use Rattle.std.proofs.Common.{◌≡◌, ℕ, zero, suc, ◌+◌, ◌-◌, ◌*◌, ◌≤◌, ◌<◌, List, [], ◌∷◌, ◌++◌, Bool, length}
 use Rattle.std.proofs.Common.{codes, refl, sym, ap, ◌∙◌, arith, append_assoc, length-append, get_or, add-one, subst}
 use Rattle.std.proofs.Math.Seq.{get_or-append_seam}
-use Rattle.std.proofs.lemmas.Bool.{le-ltb, lt-ltb}
+use Rattle.std.proofs.lemmas.Bool.{lt-ltb}
 use Rattle.std.proofs.lemmas.List.{append-nil}
 use Rattle.std.proofs.lemmas.List.FromFn.{get_or-map-range_with_len, length-map-range_with_len}
 use Rattle.std.specs.Prelude.{ℤ, pos, nat_abs, slice_index, slice_index_or}
@@ -21,7 +21,7 @@ use Rattle.certifier.specs.Accepting.{AcceptsTree}
 use Rattle.certifier.specs.Blocks.{BlockLine, Carried, CarriesFlow, LayoutLine, back_place, block_place, block_size}
 use Rattle.certifier.specs.Blocks.{certificate_layout, edge_text, layout_size, on_text, router_but}
 use Rattle.certifier.specs.Certificates.{Between, Verdict, Within, link_at, take_flow, verdict_by}
-use Rattle.certifier.specs.Trees.{Edge, Told}
+use Rattle.certifier.specs.Trees.{Edge}
 use Rattle.certifier.proofs.Places.{back_line, before_back, block_line, next_block}
 use Rattle.certifier.proofs.RereadEdges.{IsChild, Shows, child_is, edge_at, edge_front, edge_line, on_front, on_line}
 use Rattle.certifier.proofs.RereadEdges.{router_but-low, router_but-other, take-edge, take-value, take-whole, told_by}

@@ -1,8 +1,8 @@
 -- The lines of an edge and of its flow are taken again.
-use Rattle.std.proofs.Common.{◌≡◌, ◌≢◌, ℕ, ◌+◌, ◌-◌, ◌^◌, ◌≤◌, ◌<◌, List}
-use Rattle.std.proofs.Common.{[], ◌∷◌, ◌++◌, Bool, true, false, length, codes}
-use Rattle.std.proofs.Common.{decimal, refl, sym, ap, ◌∙◌, arith, append_assoc}
-use Rattle.std.proofs.Common.{length-append, Some, inl, inr, IsTrue, get_or}
+use Rattle.std.proofs.Common.{◌≡◌, ◌≢◌, ℕ, ◌+◌, ◌≤◌, ◌<◌, List}
+use Rattle.std.proofs.Common.{[], ◌∷◌, ◌++◌, false, length, codes}
+use Rattle.std.proofs.Common.{decimal, refl, sym, ap, ◌∙◌, arith}
+use Rattle.std.proofs.Common.{length-append, inl, inr, get_or}
 use Rattle.std.proofs.lemmas.Bool.{cases_eq, cases_lt, eq-eqb, false≢true, le-ltb, lt-ltb, ne_eqb}
 use Rattle.std.proofs.lemmas.Bool.Decides.{Decides-int_eq}
 use Rattle.std.proofs.lemmas.Fmt.{length-decimal-le}
@@ -10,17 +10,14 @@ use Rattle.std.proofs.lemmas.List.Folds.{list_any_none}
 use Rattle.std.proofs.lemmas.List.FromFn.{get_or-range_with_len, length-range_with_len}
 use Rattle.std.specs.Fmt.{signed_decimal}
 use Rattle.std.specs.List.{range_with_len}
-use Rattle.std.specs.Ordering.{int_eq}
-use Rattle.std.specs.Prelude.{◌==◌, ℤ, pos, nat_abs, nat_lt}
-use Rattle.cut_model.specs.Cuts.{IsLeastCut}
+use Rattle.std.specs.Prelude.{ℤ, pos, nat_abs}
 use Rattle.cut_model.specs.Flow.{IsFlow, out}
 use Rattle.cut_model.specs.Net.{Net}
 use Rattle.cut_model.specs.Terminals.{root_of}
 use Rattle.cut_model.specs.declared.network.TheConstants.{MOST_CAPACITY, MOST_VALUE}
 use Rattle.cut_model.proofs.Costs.{cut_value-most}
-use Rattle.cut_model.proofs.Terminals.{all_terminals, root-lt, terminal-lt}
+use Rattle.cut_model.proofs.Terminals.{all_terminals, terminal-lt}
 use Rattle.text_forms.specs.declared.lines.TheConstants.{MOST_LINE_BYTES}
-use Rattle.text_forms.specs.Names.{is_name}
 use Rattle.text_forms.proofs.Decimals.{IsWord-decimal, number_in-decimal}
 use Rattle.text_forms.proofs.Written.{IsLineOf, IsLineOf-spaced, IsWord-from_test, IsWord-name, length-name, spaced}
 use Rattle.network_text.specs.Sheets.{IsSheet, SheetView}
@@ -30,7 +27,7 @@ use Rattle.tree_state.specs.Tables.{Table, below}
 use Rattle.tree_state.specs.Trees.{CutsBelow, IsCutTree}
 use Rattle.certifier.specs.Blocks.{router_but}
 use Rattle.certifier.specs.Certificates.{Between, GoesOn, Within, link_at, take_flow, take_line}
-use Rattle.certifier.specs.Trees.{Edge, Told, keeps_some, leaks, sends_width}
+use Rattle.certifier.specs.Trees.{Edge, Told, keeps_some, leaks}
 use Rattle.certifier.proofs.RereadFlows.{IsWord-signed, length-value, signed_in-signed_decimal}
 use Rattle.certifier.proofs.RereadFront.{number_of-name_at}
 use Rattle.certifier.proofs.RereadLines.{counts, short_words-are}

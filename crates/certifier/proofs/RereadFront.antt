@@ -1,5 +1,5 @@
 -- The lines in front of a certificate's edges are taken again: the title, the network and the root.
-use Rattle.std.proofs.Common.{◌≡◌, ◌≢◌, ℕ, ◌+◌, ◌≤◌, ◌<◌, List, [], ◌∷◌, ◌++◌, Bool, true, false, length, map, codes}
+use Rattle.std.proofs.Common.{◌≡◌, ℕ, ◌+◌, ◌≤◌, ◌<◌, List, [], ◌∷◌, ◌++◌, Bool, true, false, length, map, codes}
 use Rattle.std.proofs.Common.{refl, sym, ap, ◌∙◌, arith, append_assoc, length-append, All, IsTrue, Some}
 use Rattle.std.proofs.lemmas.Bool.{lt-ltb, ne_eqb}
 use Rattle.std.proofs.lemmas.List.{map-append, map-id}
@@ -24,7 +24,7 @@ use Rattle.network_text.proofs.RereadingLines.{link_front, link_front-words, nam
 use Rattle.network_text.proofs.RereadingLines.{router_front-words, sheet_fronts}
 use Rattle.network_text.proofs.RereadingNames.{AreNames, Differ, place_of-name_at}
 use Rattle.certifier.specs.Blocks.{certificate_layout, root_text}
-use Rattle.certifier.specs.Certificates.{Between, GoesOn, Network, Root, Title, take_line, verdict_from}
+use Rattle.certifier.specs.Certificates.{Between, Network, Root, Title, verdict_from}
 use Rattle.certifier.specs.Trees.{Told}
 use Rattle.certifier.proofs.Clean.{NoFeed-from_test}
 use Rattle.certifier.proofs.RereadLines.{counts, counts_first, read, read-network, read-on, short_words-are}

@@ -1,12 +1,12 @@
 -- Lines as they are written are taken by what they say.
-use Rattle.std.proofs.Common.{◌≡◌, ◌≢◌, ℕ, ◌+◌, ◌≤◌, ◌<◌, List, [], ◌∷◌, ◌++◌, Bool, true, false, ◌&&◌, length, fold}
-use Rattle.std.proofs.Common.{refl, sym, ap, ◌∙◌, arith, append_assoc, take_all, Ok, Err, Result, if◌then◌else◌}
+use Rattle.std.proofs.Common.{◌≡◌, ◌≢◌, ℕ, ◌+◌, ◌<◌, List, [], ◌∷◌, ◌++◌, Bool, true, false, ◌&&◌, length, fold}
+use Rattle.std.proofs.Common.{refl, sym, ap, ◌∙◌, arith, take_all, Ok, Err, Result}
 use Rattle.std.proofs.lemmas.Bool.{ne_eqb}
 use Rattle.std.specs.Prelude.{◌==◌, not}
 use Rattle.std.specs.List.{AllByRecursion}
 use Rattle.text_forms.specs.declared.lines.TheConstants.{MOST_LINE_BYTES}
 use Rattle.text_forms.specs.Lines.{front_of, fronts_of, is_long}
-use Rattle.text_forms.specs.Words.{is_end, is_passed, line_words}
+use Rattle.text_forms.specs.Words.{is_end, is_passed}
 use Rattle.text_forms.proofs.LinesOf.{fronts_of-line}
 use Rattle.text_forms.proofs.Written.{IsLineOf, is_long-short, is_passed-word}
 use Rattle.network_text.specs.Texts.{Draft, Progress, after_line, with_line}

@@ -1,7 +1,7 @@
 -- Where all edges of a cut tree were told, the last line is taken, and the tree is accepted.
-use Rattle.std.proofs.Common.{◌≡◌, ◌≢◌, ℕ, zero, suc, ◌+◌, ◌-◌, ◌≤◌, ◌<◌}
-use Rattle.std.proofs.Common.{List, [], ◌∷◌, ◌++◌, Bool, true, false, length}
-use Rattle.std.proofs.Common.{codes, refl, sym, ap, ◌∙◌, arith, length-append, inl, inr, get_or, All, ◌||◌}
+use Rattle.std.proofs.Common.{◌≡◌, ◌≢◌, ℕ, zero, suc, ◌+◌, ◌-◌, ◌<◌}
+use Rattle.std.proofs.Common.{List, [], ◌∷◌, ◌++◌, Bool, true, length}
+use Rattle.std.proofs.Common.{codes, refl, sym, ap, ◌∙◌, arith, length-append, inl, inr, get_or, ◌||◌}
 use Rattle.std.proofs.Math.Seq.{get_or-append_seam}
 use Rattle.std.proofs.lemmas.Bool.{cases_eq, cases_lt, eq-eqb, le-ltb, lt-ltb, ne_eqb}
 use Rattle.std.proofs.lemmas.List.{get_or_append_left}
@@ -10,7 +10,6 @@ use Rattle.std.proofs.lemmas.List.Sums.{list_all-from_AllPass}
 use Rattle.std.specs.List.{AllByRecursion, range_with_len}
 use Rattle.std.specs.Prelude.{◌==◌}
 use Rattle.cut_model.specs.Cuts.{RouterSet, cut_value}
-use Rattle.cut_model.specs.Net.{Net}
 use Rattle.cut_model.specs.Terminals.{root_of}
 use Rattle.cut_model.proofs.Costs.{cut_value-same}
 use Rattle.cut_model.proofs.Terminals.{root-lt, terminal-lt}
@@ -23,7 +22,7 @@ use Rattle.tree_state.proofs.Trees.{hung_of}
 use Rattle.certifier.specs.Accepting.{AcceptsTree}
 use Rattle.certifier.specs.Blocks.{router_but}
 use Rattle.certifier.specs.Certificates.{Accepted, Between, Ends, costs_verdict, take_line, tree_verdict, verdict_by}
-use Rattle.certifier.specs.Trees.{Edge, Told, all_end_at_root, costs_width, up_by, up_in, width_by, width_in}
+use Rattle.certifier.specs.Trees.{Edge, Told, all_end_at_root, up_by, up_in, width_by, width_in}
 use Rattle.certifier.proofs.Clean.{NoFeed-from_test}
 use Rattle.certifier.proofs.RereadEdges.{IsChild, Shows, child_is, router_but-low, router_but-other, told_by}
 use Rattle.certifier.proofs.RereadLines.{counts, read, read-line}

@@ -1,5 +1,5 @@
 -- What WITNESS tells are flows.
-use Rattle.std.proofs.Common.{◌≡◌, ℕ, suc, ◌+◌, ◌*◌, ◌≤◌, ◌<◌, List, [], ◌∷◌, ◌++◌, length, map, codes, refl, sym, ap}
+use Rattle.std.proofs.Common.{◌≡◌, ℕ, suc, ◌+◌, ◌*◌, ◌<◌, List, [], ◌∷◌, ◌++◌, length, map, codes, refl, sym, ap}
 use Rattle.std.proofs.Common.{◌∙◌, arith, append_assoc, length-append, subst, add-one, get_or}
 use Rattle.std.proofs.Math.Seq.{get_or-append_seam}
 use Rattle.std.proofs.lemmas.List.{append-nil}
@@ -7,9 +7,9 @@ use Rattle.std.specs.List.{concat}
 use Rattle.std.specs.Prelude.{ℤ, pos, slice_index, slice_index_or}
 use Rattle.reply_lines.specs.Tails.{BeginsLine}
 use Rattle.tree_state.specs.Views.{TreeView}
-use Rattle.certifier.specs.Accepting.{AreFlows, TellsFlows, WitnessTellsFlows, blocks_text}
-use Rattle.certifier.specs.Blocks.{BlockLine, Carried, CarriesFlow, LayoutLine, back_place, block_place, block_size}
-use Rattle.certifier.specs.Blocks.{edge_text, layout_size, on_text, witness_layout}
+use Rattle.certifier.specs.Accepting.{TellsFlows, WitnessTellsFlows}
+use Rattle.certifier.specs.Blocks.{BlockLine, Carried, LayoutLine, block_place, block_size}
+use Rattle.certifier.specs.Blocks.{edge_text, on_text, witness_layout}
 use Rattle.certifier.proofs.Places.{before_back, block_line, next_block}
 use Rattle.certifier.proofs.RereadBlocks.{flow_length}
 use Rattle.certifier.proofs.Spots.{At, at_first, begins}

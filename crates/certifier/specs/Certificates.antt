@@ -1,8 +1,7 @@
 -- Which lines are a certificate, and the first fault of those that aren't.
-use Rattle.std.specs.Prelude.{ℕ, ◌+◌, ◌-◌, List, [], ◌∷◌, ◌++◌, Bool, true, false}
-use Rattle.std.specs.Prelude.{not, ◌||◌, ◌==◌, nat_lt, nat_le, nat_abs, ℤ, length}
+use Rattle.std.specs.Prelude.{ℕ, ◌+◌, List, [], ◌∷◌, ◌++◌, Bool}
+use Rattle.std.specs.Prelude.{not, ◌||◌, ◌==◌, nat_lt, nat_abs, ℤ, length}
 use Rattle.std.specs.Prelude.{Some, None, Result, Ok, Err, if◌then◌else◌, slice_index_or}
-use Rattle.std.specs.Option.{option_map}
 use Rattle.std.specs.declared.option.Option.{Option}
 use Rattle.cut_model.specs.Net.{Net}
 use Rattle.cut_model.specs.declared.network.Link.{Link}
@@ -13,7 +12,7 @@ use Rattle.text_forms.specs.Lines.{fronts_of}
 use Rattle.text_forms.specs.Numbers.{number_in}
 use Rattle.text_forms.specs.Words.{is_end}
 use Rattle.certifier.specs.Blocks.{router_but}
-use Rattle.certifier.specs.Forms.{EdgeWords, edge_words, is_done, is_skipped, is_title}
+use Rattle.certifier.specs.Forms.{edge_words, is_done, is_skipped, is_title}
 use Rattle.certifier.specs.Forms.{on_word, root_word, short_words}
 use Rattle.certifier.specs.Forms.{signed_in}
 use Rattle.certifier.specs.Trees.{Edge, Told, all_end_at_root, costs_width, leaks, sends_width}

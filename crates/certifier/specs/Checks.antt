@@ -1,10 +1,10 @@
 -- What a check of a certificate did.
-use Rattle.std.specs.Prelude.{◌≡◌, ℕ, ◌<◌, ◌≤◌, ◌⊎◌, List, [], ◌∷◌, Bool, true, false, length, codes, decimal, take}
+use Rattle.std.specs.Prelude.{◌≡◌, ℕ, ◌<◌, ◌≤◌, List, [], ◌∷◌, Bool, true, false, length, codes, decimal, take}
 use Rattle.std.specs.Io.KnownBytes.{Appends, Consumes}
 use Rattle.std.specs.List.{concat}
 use Rattle.line_reader.specs.declared.reader.TheConstants.{MOST_BYTES}
 use Rattle.wires.specs.Lazy.{Wire}
-use Rattle.certifier.specs.Certificates.{Fault, Verdict, Undecided, Refused as refused}
+use Rattle.certifier.specs.Certificates.{Verdict, Undecided, Refused as refused}
 use Rattle.certifier.specs.Certificates.{Accepted as accepted, verdict_on}
 use Rattle.certifier.specs.Trees.{Told}
 use Rattle.certifier.specs.declared.checking.CheckEnd.{CheckEnd}

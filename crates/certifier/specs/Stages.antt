@@ -68,6 +68,17 @@ abbrev pub Takes : Result Stage Stop → told.Taken → Type 0
 Takes (Ok kept) taken = GoesTo kept taken
 Takes (Err stop) taken = StopsBy stop taken
 
+-- the line was taken in place, as it is told
+abbrev pub TakesIn : Result (Unit {0}) Stop → Stage → told.Taken → Type 0
+TakesIn (Ok unit) kept taken = GoesTo kept taken
+TakesIn (Err stop) kept taken = StopsBy stop taken
+
+-- a value was added to the flow of an edge: what the line comes to is what the longer flow comes to
+abbrev pub Lengthens : Told → Result (Unit {0}) Stop → Way → told.Taken → Type 0
+Lengthens so_far (Ok unit) way taken =
+    (longer : Edge) × IsUnderWay so_far.sheet.net longer way × (taken ≡ told.take_flow so_far longer)
+Lengthens so_far (Err stop) way taken = StopsBy stop taken
+
 -- a fault of the network's text was told as one of the certificate, unless memory was wanted
 pub record IsTextStop (number : ℕ) (fault : TextFault) (stop : Stop) : Type 0 where
   pub want : fault.kind ≡ Memory → stop ≡ NoMemory

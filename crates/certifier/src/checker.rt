@@ -15,7 +15,6 @@ use crate::stage::Stage;
 use crate::taking::take_line;
 use line_reader::LineReader;
 use std::alloc::Global;
-use std::mem;
 use wires::{Got, LazyPeer};
 
 /// A check under way: the reader of its lines, how many of them came, and what they have told.
@@ -40,10 +39,8 @@ impl Checker {
         ensures no_read { is_failed_step result ≡ false }
     {
         let number = self.seen + 1;
-        let stage = mem::replace(&mut self.stage, Stage::Title);
-        match take_line(alloc, number, stage, self.reader.line()) {
-            Ok(stage) => {
-                self.stage = stage;
+        match take_line(alloc, number, &mut self.stage, self.reader.line()) {
+            Ok(()) => {
                 self.seen = number;
                 Ok(())
             }

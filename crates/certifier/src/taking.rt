@@ -1,6 +1,6 @@
 //! What a line does where so much was told.
-ghost use Rattle.std.specs.Prelude.{◌≡◌, ℕ, ◌+◌, ◌<◌, ◌≤◌, ◌^◌, List, ℤ, length};
-ghost use Rattle.std.specs.Prelude.{pos, replicate, true, false, IfOk, IfSome, Ok};
+ghost use Rattle.std.specs.Prelude.{◌≡◌, ℕ, ◌+◌, ◌-◌, ◌<◌, ◌≤◌, ◌^◌, List, ℤ, length};
+ghost use Rattle.std.specs.Prelude.{nat_lt, pos, replicate, true, false, IfOk, IfSome, Ok, OnOk};
 ghost use Rattle.certifier.specs.Certificates as certificate;
 ghost use Rattle.certifier.specs.Certificates.{take_between as told_between, take_counted as told_counted};
 ghost use Rattle.certifier.specs.Certificates.{take_done as told_done, take_drafted, take_edge as told_edge, take_end};
@@ -10,7 +10,8 @@ ghost use Rattle.certifier.specs.Certificates.{take_root as told_root, take_titl
 ghost use Rattle.certifier.specs.Certificates.{link_at, take_routers as told_routers, take_value as told_value};
 ghost use Rattle.certifier.specs.Certificates.{take_whole as told_whole};
 ghost use Rattle.certifier.specs.Kept.{IsKept};
-ghost use Rattle.certifier.specs.Stages.{IsNext, IsReady, IsTextStop, IsUnderWay, Shows, Takes, told_names};
+ghost use Rattle.certifier.specs.Stages.{IsNext, IsReady, IsTextStop, IsUnderWay, Lengthens, Shows, Takes};
+ghost use Rattle.certifier.specs.Stages.{TakesIn, told_names};
 ghost use Rattle.certifier.specs.Signs.{HasSign};
 ghost use Rattle.certifier.specs.Trees.{Edge, Told};
 ghost use Rattle.cut_model.specs.Net.{IsLink};
@@ -28,6 +29,7 @@ use crate::tree::Tree;
 use cut_model::{Link, NoMemory};
 use network_text::{Fed, Reader, Sheet, TextFault, TextKind};
 use std::alloc::Global;
+use std::mem;
 use text_forms::parse_number;
 
 /// The number of the fault of a line that isn't what must stand there.
@@ -284,26 +286,31 @@ fn link_of(tree: &Tree, place: usize) -> Link
 }
 
 /// A value of the flow of an edge, on the next link.
-fn take_value(number: u32, tree: Tree, mut way: Way, value: Signed) -> Result<Stage, Stop>
-    requires ready { IsReady number (Stage.Within tree way) }
-    ensures takes { (told : Told) (edge : Edge) (size : ℤ) → IsKept told tree → IsUnderWay told.sheet.net edge way
-        → HasSign size value → Takes result (told_value number told edge size) }
-    ensures ready { IfOk result (IsReady (number + 1)) }
+fn add_told(number: u32, tree: &Tree, way: &mut Way, value: Signed) -> Result<(), Stop>
+    requires next { IsNext tree.now way.old }
+    requires left { way.old.sums.values < length tree.now.sheet.net.links }
+    ensures takes { (told : Told) (edge : Edge) (size : ℤ) → IsKept told tree.now
+        → IsUnderWay told.sheet.net edge way.old → HasSign size value
+        → Lengthens told result way.new (told_value number told edge size) }
+    ensures next { OnOk result (IsNext tree.now way.new) }
+    ensures values { OnOk result (way.new.sums.values ≡ way.old.sums.values + 1) }
 {
-    let link = link_of(&tree, way.sums.values());
+    let link = link_of(tree, way.sums.values());
     if value.size > link.cap {
         return Err(faulty(TOO_MUCH, number));
     }
     way.sums.add(&link, value.value());
-    take_flow(number, tree, way)
+    Ok(())
 }
 
 /// A line that tells a value of the flow of an edge.
-fn take_on(number: u32, tree: Tree, way: Way, line: &[u8]) -> Result<Stage, Stop>
-    requires ready { IsReady number (Stage.Within tree way) }
-    ensures takes { (told : Told) (edge : Edge) → IsKept told tree → IsUnderWay told.sheet.net edge way
-        → Takes result (told_on number told edge line.now) }
-    ensures ready { IfOk result (IsReady (number + 1)) }
+fn add_on(number: u32, tree: &Tree, way: &mut Way, line: &[u8]) -> Result<(), Stop>
+    requires next { IsNext tree.now way.old }
+    requires left { way.old.sums.values < length tree.now.sheet.net.links }
+    ensures takes { (told : Told) (edge : Edge) → IsKept told tree.now → IsUnderWay told.sheet.net edge way.old
+        → Lengthens told result way.new (told_on number told edge line.now) }
+    ensures next { OnOk result (IsNext tree.now way.new) }
+    ensures values { OnOk result (way.new.sums.values ≡ way.old.sums.values + 1) }
 {
     let Some(word) = on_word(line) else {
         return Err(faulty(WRONG_LINE, number));
@@ -311,7 +318,18 @@ fn take_on(number: u32, tree: Tree, way: Way, line: &[u8]) -> Result<Stage, Stop
     let Some(value) = parse_signed(word) else {
         return Err(faulty(NO_NUMBER, number));
     };
-    take_value(number, tree, way, value)
+    add_told(number, tree, way, value)
+}
+
+/// A line that tells a value of the flow of an edge, which may be its last one.
+fn take_on(number: u32, tree: Tree, mut way: Way, line: &[u8]) -> Result<Stage, Stop>
+    requires ready { IsReady number (Stage.Within tree way) }
+    ensures takes { (told : Told) (edge : Edge) → IsKept told tree → IsUnderWay told.sheet.net edge way
+        → Takes result (told_on number told edge line.now) }
+    ensures ready { IfOk result (IsReady (number + 1)) }
+{
+    add_on(number, &tree, &mut way, line)?;
+    take_flow(number, tree, way)
 }
 
 /// A line that isn't passed over.
@@ -331,22 +349,38 @@ fn take_counted(alloc: Global, number: u32, stage: Stage, line: &[u8]) -> Result
     }
 }
 
-/// The line of this number, counted from 1: what is kept behind it, or why no further line is taken.
+/// Whether the flow of an edge goes on behind the next value.
+fn goes_on(tree: &Tree, way: &Way) -> bool
+    requires { way.now.sums.values < length tree.now.sheet.net.links }
+    ensures { result ≡ nat_lt 1 (length tree.now.sheet.net.links - way.now.sums.values) }
+{
+    tree.sheet().net().links().len() - way.sums.values() > 1
+}
+
+/// The line of this number, counted from 1: what is kept behind it, or why no further line is taken. A value behind
+/// which the flow of its edge goes on is added in place, so that what is kept isn't moved for each of them.
 pub(crate) fn take_line(
     alloc: Global,
     number: u32,
-    stage: Stage,
+    stage: &mut Stage,
     line: &[u8],
-) -> Result<Stage, Stop>
+) -> Result<(), Stop>
     requires some { 0 < number }
     requires few { number ≤ 2 ^ 31 }
-    requires ready { IsReady number stage }
-    ensures takes { (told : certificate.Stage) → Shows told stage → Takes result (told_line number told line.now) }
-    ensures ready { IfOk result (IsReady (number + 1)) }
+    requires ready { IsReady number stage.old }
+    ensures takes { (told : certificate.Stage) → Shows told stage.old
+        → TakesIn result stage.new (told_line number told line.now) }
+    ensures ready { OnOk result (IsReady (number + 1) stage.new) }
 {
     if is_skipped(number, line) {
-        Ok(stage)
-    } else {
-        take_counted(alloc, number, stage, line)
+        return Ok(());
     }
+    if let Stage::Within(tree, way) = stage {
+        if goes_on(tree, way) {
+            return add_on(number, tree, way, line);
+        }
+    }
+    let before = mem::replace(stage, Stage::Title);
+    *stage = take_counted(alloc, number, before, line)?;
+    Ok(())
 }
