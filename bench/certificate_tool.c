@@ -15,6 +15,8 @@
 #include <string.h>
 #include <unistd.h>
 
+#include "page.h"
+
 enum { MOST_LINE = 512, MOST_NAME = 32, MOST_ROUTERS = 1024, MOST_LINKS = 8192, SLOTS = 4096, MOST_WORDS = 5 };
 static const int64_t MOST_CAPACITY = 1000000000000, MOST_WIDTH = 8192000000000000;
 
@@ -244,28 +246,6 @@ static void take_certificate(void) {
 }
 
 /* ---- writing */
-
-static char page[1 << 16];
-static size_t filled;
-
-static void flush(void) {
-    for (size_t done = 0; done < filled;) {
-        ssize_t size = write(1, page + done, filled - done);
-        if (size <= 0) {
-            exit(3);
-        }
-        done += (size_t)size;
-    }
-    filled = 0;
-}
-
-static void put(const char *text, size_t size) {
-    if (sizeof page - filled < size) {
-        flush();
-    }
-    memcpy(page + filled, text, size);
-    filled += size;
-}
 
 static void put_text(const char *text) {
     put(text, strlen(text));

@@ -29,6 +29,13 @@ median_of() {
     cut -d ' ' -f "${2:-1}" "$room/$1" | sort -n | sed -n "$(((rounds + 1) / 2))p"
 }
 
+# seconds_of WHO FIELD: how much longer the input `many` took than `none`: by wall time (1) or processor
+# time (4).
+seconds_of() {
+    awk -v many="$(median_of "many.$1" "$2")" -v none="$(median_of "none.$1" "$2")" \
+        'BEGIN { printf "%.6f\n", many - none }'
+}
+
 # peak_of NAME: the most memory in the file NAME, in kB.
 peak_of() {
     cut -d ' ' -f 2 "$room/$1" | sort -n | tail -n 1

@@ -73,12 +73,6 @@ take_turns() {
     done
 }
 
-# seconds_of WHO FIELD: what the requests took: by wall time (1) or processor time (4).
-seconds_of() {
-    awk -v many="$(median_of "many.$1" "$2")" -v none="$(median_of "none.$1" "$2")" \
-        'BEGIN { printf "%.6f\n", many - none }'
-}
-
 # print_row NETWORK WORD OUTPUT COUNT
 print_row() {
     awk -v network="$1" -v word="$2" -v output="$3" -v count="$4" \
