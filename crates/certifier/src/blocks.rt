@@ -17,18 +17,18 @@ use wires::{Failed, Sink, put_pieces};
 #[derive(Clone, Copy)]
 pub(crate) struct BlockPlace {
     pub(crate) block: u64,
-    pub(crate) k: u32,
+    pub(crate) line: u32,
 }
 
 /// Where the line of a place among blocks stands, each of which has one line more than the network has links.
 pub(crate) fn find_block(place: u64, net: &Network) -> BlockPlace
-    ensures place { place ≡ result.block * block_size net.now + result.k }
-    ensures within { result.k < block_size net.now }
+    ensures place { place ≡ result.block * block_size net.now + result.line }
+    ensures within { result.line < block_size net.now }
 {
     let size = net.links().len() as u64 + 1;
     BlockPlace {
         block: place / size,
-        k: (place % size) as u32,
+        line: (place % size) as u32,
     }
 }
 
@@ -39,23 +39,23 @@ pub(crate) fn write_block_line<K: Sink>(
     sheet: &Sheet,
     finished: &Finished,
     child: u32,
-    k: u32,
+    line: u32,
     room: &mut FlowRoom,
     sink: &mut K,
 ) -> Result<(), Failed>
     requires word { length word.now ≤ 4 }
     requires same { finished.now.tree.net ≡ sheet.now.net }
     requires child { IsLowerEnd sheet.now.net child }
-    requires within { k < block_size sheet.now.net }
-    requires carried { (link : ℕ) → k ≡ suc link → CarriesFlow finished.now.tree child room.old }
+    requires within { line < block_size sheet.now.net }
+    requires carried { (link : ℕ) → line ≡ suc link → CarriesFlow finished.now.tree child room.old }
     ensures carried { CarriesFlow finished.now.tree child room.new }
     ensures puts { PutsLine K.Sink sink.old sink.new result
-        (BlockLine word.now sheet.now.names finished.now.tree child) k room.old room.new }
+        (BlockLine word.now sheet.now.names finished.now.tree child) line room.old room.new }
 {
-    if k == 0 {
+    if line == 0 {
         return write_edge(word, sheet, finished, child, room, sink);
     }
-    write_value(room, k - 1, sink)
+    write_value(room, line - 1, sink)
 }
 
 /// Writes the first line of the block of a router, and puts a flow of its edge into the room.

@@ -95,8 +95,8 @@ fn child_at(sheet: &Sheet, place: u32) -> u32
 /// Where a line behind those in front stands among the edges, or behind them.
 fn find_edge_line(sheet: &Sheet, place: u64) -> BlockPlace
     requires { length (certificate_layout sheet.now).front ≤ place }
-    ensures place { place ≡ block_place sheet.now.net (certificate_layout sheet.now) result.block result.k }
-    ensures within { result.k < block_size sheet.now.net }
+    ensures place { place ≡ block_place sheet.now.net (certificate_layout sheet.now) result.block result.line }
+    ensures within { result.line < block_size sheet.now.net }
 {
     find_block(place - front_line_count(sheet), sheet.net())
 }
@@ -149,7 +149,7 @@ fn write_place<K: Sink>(
         return put_pieces(&[b"DONE\n"], sink);
     }
     let child = child_at(sheet, at.block as u32);
-    write_block_line("edge", sheet, finished, child, at.k, room, sink)
+    write_block_line("edge", sheet, finished, child, at.line, room, sink)
 }
 
 /// Writes the certificate of a tree: a title, the lines of the network, the root, for each other router in number

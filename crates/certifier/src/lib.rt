@@ -3,6 +3,7 @@
 
 mod blocks;
 mod certificate;
+#[cfg(test)]
 mod check_tests;
 mod checker;
 mod checking;

@@ -92,7 +92,7 @@ fn write_place<K: Sink>(
 {
     let at = find_block(place, sheet.net());
     let child = children[at.block as usize];
-    write_block_line("flow", sheet, finished, child, at.k, room, sink)
+    write_block_line("flow", sheet, finished, child, at.line, room, sink)
 }
 
 /// Writes for each of these routers a line that tells the edge above it, and behind it for each link a line with

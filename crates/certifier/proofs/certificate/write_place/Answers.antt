@@ -20,9 +20,9 @@ returns-then-at-from-clause-fits g c =
     let tree = c.args.finished.now.tree in
     let layout = certificate_layout c.args.sheet.now in
     let at = c.find_edge_line-at in
-    let is = subst (λ (net : Net). c.args.place ≡ block_place net layout at.result.block at.result.k)
+    let is = subst (λ (net : Net). c.args.place ≡ block_place net layout at.result.block at.result.line)
     (sym c.requires.same) at.ensures.place in
-    let back = back_behind tree.net layout at.result.block at.result.k c.args.place is
+    let back = back_behind tree.net layout at.result.block at.result.line c.args.place is
     (omega (arith, c.edge_count.ensures.value, c.from.ensures, c.if-at-from.true)) in
     fits_behind tree layout c.args.place c.args.room.now back
 
@@ -31,9 +31,9 @@ returns-then-at-from-clause-puts g c =
     let tree = c.args.finished.now.tree in
     let layout = certificate_layout c.args.sheet.now in
     let at = c.find_edge_line-at in
-    let is = subst (λ (net : Net). c.args.place ≡ block_place net layout at.result.block at.result.k)
+    let is = subst (λ (net : Net). c.args.place ≡ block_place net layout at.result.block at.result.line)
     (sym c.requires.same) at.ensures.place in
-    let back = back_behind tree.net layout at.result.block at.result.k c.args.place is
+    let back = back_behind tree.net layout at.result.block at.result.line c.args.place is
     (omega (arith, c.edge_count.ensures.value, c.from.ensures, c.if-at-from.true)) in
     let last : c.args.place ≡ back_place tree.net layout + 0 = omega (arith, back, c.requires.within) in
     puts_in_back c.args.sheet.now.names tree layout c.args.place 0 c.args.room.now (omega arith) last (omega arith)
@@ -44,9 +44,9 @@ write_block_line-requires-clause-carried g c = λ link next.
     let tree = c.args.finished.now.tree in
     let layout = certificate_layout c.args.sheet.now in
     let at = c.find_edge_line-at in
-    let is = subst (λ (net : Net). c.args.place ≡ block_place net layout at.result.block at.result.k)
+    let is = subst (λ (net : Net). c.args.place ≡ block_place net layout at.result.block at.result.line)
     (sym c.requires.same) at.ensures.place in
-    let within = subst (λ (net : Net). at.result.k < block_size net) (sym c.requires.same) at.ensures.within in
+    let within = subst (λ (net : Net). at.result.line < block_size net) (sym c.requires.same) at.ensures.within in
     subst (λ (child : ℕ). CarriesFlow tree child c.args.room.now) (sym c.child_at-child.ensures.value)
     (c.requires.fits at.result.block link
     (omega (arith, c.edge_count.ensures.value, c.from.ensures, c.if-at-from.false))
@@ -57,10 +57,10 @@ returns-clause-fits g c =
     let tree = c.args.finished.now.tree in
     let layout = certificate_layout c.args.sheet.now in
     let at = c.find_edge_line-at in
-    let is = subst (λ (net : Net). c.args.place ≡ block_place net layout at.result.block at.result.k)
+    let is = subst (λ (net : Net). c.args.place ≡ block_place net layout at.result.block at.result.line)
     (sym c.requires.same) at.ensures.place in
-    let within = subst (λ (net : Net). at.result.k < block_size net) (sym c.requires.same) at.ensures.within in
-    fits_in_block tree layout c.args.place c.write_block_line.new.room at.result.block at.result.k is within
+    let within = subst (λ (net : Net). at.result.line < block_size net) (sym c.requires.same) at.ensures.within in
+    fits_in_block tree layout c.args.place c.write_block_line.new.room at.result.block at.result.line is within
     (subst (λ (child : ℕ). CarriesFlow tree child c.write_block_line.new.room) c.child_at-child.ensures.value
     c.write_block_line.ensures.carried)
 
@@ -70,11 +70,11 @@ returns-clause-puts g c =
     let tree = c.args.finished.now.tree in
     let layout = certificate_layout c.args.sheet.now in
     let at = c.find_edge_line-at in
-    let is = subst (λ (net : Net). c.args.place ≡ block_place net layout at.result.block at.result.k)
+    let is = subst (λ (net : Net). c.args.place ≡ block_place net layout at.result.block at.result.line)
     (sym c.requires.same) at.ensures.place in
-    let within = subst (λ (net : Net). at.result.k < block_size net) (sym c.requires.same) at.ensures.within in
-    puts_in_block names tree layout at.result.block at.result.k c.args.place c.args.room.now c.write_block_line.new.room
-    (omega (arith, c.edge_count.ensures.value, c.from.ensures, c.if-at-from.false)) within is
+    let within = subst (λ (net : Net). at.result.line < block_size net) (sym c.requires.same) at.ensures.within in
+    puts_in_block names tree layout at.result.block at.result.line c.args.place c.args.room.now
+    c.write_block_line.new.room (omega (arith, c.edge_count.ensures.value, c.from.ensures, c.if-at-from.false)) within is
     (subst (λ (child : ℕ). PutsLine g.K.Sink c.args.sink.now c.write_block_line.new.sink c.write_block_line.result
-    (BlockLine (codes "edge") names tree child) at.result.k c.args.room.now c.write_block_line.new.room)
+    (BlockLine (codes "edge") names tree child) at.result.line c.args.room.now c.write_block_line.new.room)
     c.child_at-child.ensures.value c.write_block_line.ensures.puts)

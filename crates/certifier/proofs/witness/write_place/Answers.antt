@@ -10,12 +10,13 @@ write_block_line-requires-clause-carried g c = λ link next.
     let children = c.args.children.now in
     let at = c.find_block-at in
     let net = c.deref.ensures ∙ c.net.ensures.value ∙ sym c.requires.same in
-    let within = subst (λ (n : Net). at.result.k < block_size n) net at.ensures.within in
-    let here = subst (λ (n : Net). c.args.place ≡ at.result.block * block_size n + at.result.k) net at.ensures.place in
-    let is : c.args.place ≡ block_place tree.net (witness_layout children) at.result.block at.result.k =
+    let within = subst (λ (n : Net). at.result.line < block_size n) net at.ensures.within in
+    let here = subst (λ (n : Net). c.args.place ≡ at.result.block * block_size n + at.result.line) net
+    at.ensures.place in
+    let is : c.args.place ≡ block_place tree.net (witness_layout children) at.result.block at.result.line =
     omega (arith, here) in
     c.requires.fits at.result.block link
-    (witness_within tree.net children at.result.block at.result.k c.args.place is c.requires.within)
+    (witness_within tree.net children at.result.block at.result.line c.args.place is c.requires.within)
     (omega (arith, within, next)) (omega (arith, is, next))
 
 pub returns-clause-fits : goal.returns-clause-fits
@@ -24,9 +25,10 @@ returns-clause-fits g c =
     let children = c.args.children.now in
     let at = c.find_block-at in
     let net = c.deref.ensures ∙ c.net.ensures.value ∙ sym c.requires.same in
-    let within = subst (λ (n : Net). at.result.k < block_size n) net at.ensures.within in
-    let here = subst (λ (n : Net). c.args.place ≡ at.result.block * block_size n + at.result.k) net at.ensures.place in
-    let is : c.args.place ≡ block_place tree.net (witness_layout children) at.result.block at.result.k =
+    let within = subst (λ (n : Net). at.result.line < block_size n) net at.ensures.within in
+    let here = subst (λ (n : Net). c.args.place ≡ at.result.block * block_size n + at.result.line) net
+    at.ensures.place in
+    let is : c.args.place ≡ block_place tree.net (witness_layout children) at.result.block at.result.line =
     omega (arith, here) in
-    fits_in_block tree (witness_layout children) c.args.place c.write_block_line.new.room at.result.block at.result.k is
-    within c.write_block_line.ensures.carried
+    fits_in_block tree (witness_layout children) c.args.place c.write_block_line.new.room at.result.block at.result.line
+    is within c.write_block_line.ensures.carried
