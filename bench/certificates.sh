@@ -77,9 +77,7 @@ take_turns() {
         measured check.ours "$program" check <"$room/told"
         measured check.theirs "$room/certificate_tool" check <"$room/told"
     done
-    for name in none.ours many.ours none.theirs many.theirs check.ours check.theirs; do
-        [ "$(statuses_of "$name")" = '0 ' ] || fail "a run failed: the statuses of $name are $(statuses_of "$name")"
-    done
+    need_done none.ours many.ours none.theirs many.theirs check.ours check.theirs
 }
 
 # figures_of WHAT FIELD: what it took ours and theirs, by wall time (1) or processor time (4): of a check,

@@ -62,12 +62,7 @@ take_turns() {
         measured none.theirs "$room/table_writer" "$room/reply" 0
         measured many.theirs "$room/table_writer" "$room/reply" "$count"
     done
-    for name in none.ours many.ours none.theirs many.theirs; do
-        [ "$(statuses_of "$name")" = '0 ' ] || {
-            printf 'a run failed: the statuses of %s are %s\n' "$name" "$(statuses_of "$name")" >&2
-            exit 1
-        }
-    done
+    need_done none.ours none.theirs many.ours many.theirs
 }
 
 printf '%s replies each, medians of %s runs, ours and the yardstick in turn; the ratios are of the times\n' \

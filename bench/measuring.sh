@@ -46,6 +46,16 @@ statuses_of() {
     cut -d ' ' -f 3 "$room/$1" | sort -u | tr '\n' ' '
 }
 
+# need_done NAME..: ends the benchmark where a run in one of these files didn't end with status 0.
+need_done() {
+    for name in "$@"; do
+        [ "$(statuses_of "$name")" = '0 ' ] || {
+            printf 'a run failed: the statuses of %s are %s\n' "$name" "$(statuses_of "$name")" >&2
+            exit 1
+        }
+    done
+}
+
 # compare TITLE NAME YARDSTICK WORD..: the program and the yardstick in turn on the input NAME.
 compare() {
     title=$1 input=$2 yardstick=$3

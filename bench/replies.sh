@@ -65,12 +65,7 @@ take_turns() {
             run_to "$1" "$input.theirs" "$room/reply_writer" "$room/$input.replies" <"$room/$input"
         done
     done
-    for name in none.ours none.theirs many.ours many.theirs; do
-        [ "$(statuses_of "$name")" = '0 ' ] || {
-            printf 'a run failed: the statuses of %s are %s\n' "$name" "$(statuses_of "$name")" >&2
-            exit 1
-        }
-    done
+    need_done none.ours none.theirs many.ours many.theirs
 }
 
 # print_row NETWORK WORD OUTPUT COUNT

@@ -4,12 +4,11 @@
  *
  * usage: reply_writer REPLIES < SESSION
  */
-#include <fcntl.h>
 #include <stddef.h>
 #include <string.h>
-#include <sys/mman.h>
-#include <sys/stat.h>
 #include <unistd.h>
+
+#include "mapped.h"
 
 static char buffer[1 << 20];
 static const char *reply, *replies_end;
@@ -62,18 +61,8 @@ static size_t take_lines(size_t known, int *status) {
 }
 
 static int map_replies(const char *path) {
-    struct stat about;
-    int file = open(path, O_RDONLY);
-    if (file < 0 || fstat(file, &about) != 0) {
-        return 2;
-    }
-    void *bytes = mmap(NULL, (size_t)about.st_size, PROT_READ, MAP_PRIVATE, file, 0);
-    if (bytes == MAP_FAILED) {
-        return 2;
-    }
-    reply = bytes;
-    replies_end = reply + about.st_size;
-    return 0;
+    reply = map_file(path, &replies_end);
+    return reply == NULL ? 2 : 0;
 }
 
 int main(int count, char **words) {

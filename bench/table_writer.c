@@ -4,14 +4,11 @@
  *
  * usage: table_writer REPLY COUNT
  */
-#include <fcntl.h>
 #include <stdint.h>
 #include <stdlib.h>
 #include <string.h>
-#include <sys/mman.h>
-#include <sys/stat.h>
-#include <unistd.h>
 
+#include "mapped.h"
 #include "page.h"
 
 /* A word of a line: a name (of size bytes) or, where size is 0, a number. */
@@ -90,18 +87,8 @@ static void put_line(size_t from, size_t end) {
 }
 
 static int map_reply(const char *path) {
-    struct stat about;
-    int file = open(path, O_RDONLY);
-    if (file < 0 || fstat(file, &about) != 0 || about.st_size == 0) {
-        return 2;
-    }
-    void *bytes = mmap(NULL, (size_t)about.st_size, PROT_READ, MAP_PRIVATE, file, 0);
-    if (bytes == MAP_FAILED) {
-        return 2;
-    }
-    text = bytes;
-    text_end = text + about.st_size;
-    return text_end[-1] == '\n' ? 0 : 2;
+    text = map_file(path, &text_end);
+    return text != NULL && text_end[-1] == '\n' ? 0 : 2;
 }
 
 int main(int count, char **given) {

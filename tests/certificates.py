@@ -392,19 +392,8 @@ def faults_behind_passed_lines():
 
 def flow_between(network, s, t):
     """A greatest flow from s to t: a value for each link."""
-    left = network.capacities[:]
-    while True:
-        level = {s: 0}
-        queue = [s]
-        for router in queue:
-            for arc in network.arcs[router]:
-                head = network.heads[arc]
-                if left[arc] and head not in level:
-                    level[head] = level[router] + 1
-                    queue.append(head)
-        if t not in level:
-            return parted_flow(network, left)
-        check_replies.send(network, left, level, s, t)
+    left, _, _ = check_replies.greatest_flow(network, s, t)
+    return parted_flow(network, left)
 
 
 def parted_flow(network, left):

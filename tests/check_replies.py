@@ -195,8 +195,9 @@ def network_in(text, ended):
 # ---- least cuts and trees
 
 
-def least_cut(network, s, t):
-    """The value of a least cut of s from t, and the least side (Dinic, 1970)."""
+def greatest_flow(network, s, t):
+    """What a greatest flow from s to t leaves on each arc, its value, and the routers that s reaches then
+    (Dinic, 1970)."""
     left = network.capacities[:]
     value = 0
     while True:
@@ -209,8 +210,14 @@ def least_cut(network, s, t):
                     level[head] = level[router] + 1
                     queue.append(head)
         if t not in level:
-            return value, set(queue)
+            return left, value, set(queue)
         value += send(network, left, level, s, t)
+
+
+def least_cut(network, s, t):
+    """The value of a least cut of s from t, and the least side."""
+    _, value, side = greatest_flow(network, s, t)
+    return value, side
 
 
 def send(network, left, level, s, t):
