@@ -1,52 +1,57 @@
 -- What a line adds to the names and links of a text.
-use Rattle.std.proofs.Common.{◌≡◌, ℕ, ◌-◌, ◌^◌, ◌<◌, ◌≤◌, List, [], ◌∷◌, ◌++◌, Bool, true, false, not, min, nat_lt}
+use Rattle.std.proofs.Common.{◌≡◌, ◌≢◌, ℕ, ◌-◌, ◌^◌, ◌<◌, ◌≤◌, List, [], ◌∷◌, ◌++◌, true, min, nat_lt}
 use Rattle.std.proofs.Common.{length, length-append}
 use Rattle.std.proofs.Common.{Option, Some, None, refl, sym, ap, ◌∙◌, inl, inr, arith}
-use Rattle.std.specs.List.{list_any, position_or_len}
+use Rattle.std.specs.List.{list_any}
+use Rattle.std.proofs.lemmas.List.Folds.{list_any_at}
+use Rattle.std.proofs.lemmas.List.Quantifiers.{position-Some}
+use Rattle.std.proofs.lemmas.List.Sums.{position_or_len_is}
 use Rattle.std.specs.Str.{bytes_eq}
 use Rattle.std.specs.Option.{option_map}
-use Rattle.std.proofs.lemmas.Bool.{cases_Bool, le-ltb, ltb-true, ltb-false, lt-ltb}
-use Rattle.indexmap.specs.IndexSet.{insert_key}
+use Rattle.std.proofs.lemmas.Bool.{cases_Bool, ltb-true, ltb-false, lt-ltb}
 use Rattle.cut_model.specs.declared.network.TheConstants.{MOST_CAPACITY, MOST_ROUTERS}
 use Rattle.text_forms.specs.Names.{is_name}
 use Rattle.text_forms.specs.Numbers.{number_in}
 use Rattle.network_text.specs.Texts.{Draft, with_name, place_of, with_link, with_capacity, link_line}
-use Rattle.network_text.specs.contracts.name.NamePartialEq.TheImpl.{eq-value}
-use Rattle.network_text.proofs.SameNames.{eq-bytes_eq}
-use Rattle.network_text.proofs.Places.{place_of-own}
+use Rattle.network_text.specs.Sheets.{number_of}
+use Rattle.network_text.proofs.Places.{place-below, place_of-own}
 
--- The set of names takes in a name at the end where it is new,
-pub inserted : (keys new : List (List ℕ)) (name : List ℕ) → new ≡ insert_key (eq-value).it keys name
-    → new ≡ with_name keys name
-inserted keys new name e = e ∙ ap (λ eq. insert_key eq keys name) eq-bytes_eq
+-- A name that is taken in at the end where it is new has its place,
+pub placed : (keys new : List (List ℕ)) (name : List ℕ) (place : ℕ) → new ≡ with_name keys name
+    → place ≡ place_of keys name → place ≡ place_of new name
+placed keys new name place e at = at ∙ sym (place_of-own keys name) ∙ ap (λ names. place_of names name) (sym e)
 
--- and tells its place.
-pub placed : (keys new : List (List ℕ)) (name : List ℕ) (place : ℕ) → new ≡ insert_key (eq-value).it keys name
-    → place ≡ position_or_len ((eq-value).it name) keys → place ≡ place_of new name
-placed keys new name place e at =
-    at ∙ ap (λ eq. position_or_len (eq name) keys) eq-bytes_eq
-    ∙ sym (place_of-own keys name) ∙ ap (λ names. place_of names name) (sym (inserted keys new name e))
-
--- Among as many names as a network may have, a name is one too many where it isn't there.
-pub one_too_many : (keys : List (List ℕ)) (name : List ℕ) (known : Bool) → length keys ≡ MOST_ROUTERS
-    → known ≡ list_any ((eq-value).it name) keys → not known ≡ nat_lt MOST_ROUTERS (length (with_name keys name))
-one_too_many keys name known full is =
-    let same : known ≡ list_any (bytes_eq name) keys = is ∙ ap (λ eq. list_any (eq name) keys) eq-bytes_eq in
+-- and one at most is added.
+pub inserted-few : (keys new : List (List ℕ)) (name : List ℕ) → new ≡ with_name keys name
+    → length keys ≤ MOST_ROUTERS → length keys ≢ MOST_ROUTERS → length new ≤ MOST_ROUTERS
+inserted-few keys new name e few less =
     elim (cases_Bool (list_any (bytes_eq name) keys)) [
-      | inl there ↦
-          let few : length keys ≤ MOST_ROUTERS = omega arith in
-          rw (same, there, le-ltb MOST_ROUTERS (length keys) few) refl
-      | inr new ↦
-          let more : MOST_ROUTERS < length (keys ++ name ∷ []) = omega (arith, length-append keys (name ∷ [])) in
-          rw (same, new, lt-ltb MOST_ROUTERS (length (keys ++ name ∷ [])) more) refl
+      | inl there ↦ omega (arith, ap length (rw there at e))
+      | inr new_name ↦ omega (arith, ap length (rw new_name at e), length-append keys (name ∷ []))
     ]
 
--- A name that isn't one too many leaves as many as a network may have, or fewer.
-pub inserted-few : (keys new : List (List ℕ)) (name : List ℕ) (many : Bool) → new ≡ insert_key (eq-value).it keys name
-    → many ≡ nat_lt MOST_ROUTERS (length (with_name keys name)) → many ≡ false → length new ≤ MOST_ROUTERS
-inserted-few keys new name many e is fits =
-    let few = ltb-false MOST_ROUTERS (length (with_name keys name)) (sym is ∙ fits) in
-    omega (arith, few, ap length (inserted keys new name e))
+-- Among as many names as a network may have, one that is found is there already,
+pub known : (keys : List (List ℕ)) (name : List ℕ) (place : ℕ) → number_of keys name ≡ Some place
+    → (keys ≡ with_name keys name) × (place ≡ place_of keys name) × (place < length keys)
+known keys name place is =
+    let found = position-Some (bytes_eq name) keys place [] is in
+    let there = list_any_at (bytes_eq name) keys place [] found.0 found.1 in (
+      rw there refl,
+      sym (position_or_len_is (bytes_eq name) keys place [] (omega (arith, found.0)) found.2 (λ _. found.1)),
+      found.0,
+    )
+
+-- and one that isn't would be one too many.
+pub unknown : (keys : List (List ℕ)) (name : List ℕ) → length keys ≡ MOST_ROUTERS → number_of keys name ≡ None
+    → nat_lt MOST_ROUTERS (length (with_name keys name)) ≡ true
+unknown keys name full is =
+    elim (cases_Bool (list_any (bytes_eq name) keys)) [
+      | inl there ↦
+          let below = lt-ltb _ _ (place-below (bytes_eq name) keys there) in absurd (let some = rw below at is in cc)
+      | inr new ↦
+          let more : MOST_ROUTERS < length (keys ++ name ∷ []) = omega (arith, length-append keys (name ∷ [])) in
+          rw new (lt-ltb MOST_ROUTERS (length (keys ++ name ∷ [])) more)
+    ]
 
 -- A capacity that is too large may be told as any that is.
 with_link-too_large : (draft : Draft) (first second : List ℕ) (cap other : ℕ)

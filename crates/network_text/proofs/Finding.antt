@@ -8,8 +8,6 @@ use Rattle.std.proofs.lemmas.List.Sums.{position_or_len_is}
 use Rattle.std.proofs.lemmas.Slice.Eq.{bytes_eq-Decides}
 use Rattle.text_forms.specs.Names.{is_name}
 use Rattle.network_text.specs.Sheets.{number_of}
-use Rattle.network_text.specs.contracts.name.NamePartialEq.TheImpl.{eq-value}
-use Rattle.network_text.proofs.SameNames.{eq-bytes_eq}
 
 -- Where no element passes there is no place.
 pub position-none : (p : List ℕ → Bool) (xs : List (List ℕ)) → All (λ x. p x ≡ false) xs → position p xs ≡ None
@@ -32,7 +30,6 @@ number_of-no_name names name named no_name =
 
 -- A look-up among the names gives the number.
 pub number_of-found : (keys names : List (List ℕ)) (key name : List ℕ) (found : Option ℕ)
-    → found ≡ position ((eq-value).it key) keys → key ≡ name → keys ≡ names → found ≡ number_of names name
+    → found ≡ number_of keys key → key ≡ name → keys ≡ names → found ≡ number_of names name
 number_of-found keys names key name found e k n =
-    e ∙ ap (λ eq. position (eq key) keys) eq-bytes_eq
-    ∙ ap (λ bytes. number_of keys bytes) k ∙ ap (λ xs. number_of xs name) n
+    e ∙ ap (λ bytes. number_of keys bytes) k ∙ ap (λ xs. number_of xs name) n

@@ -3,6 +3,7 @@ pub mod Examples
 pub mod Finding
 pub mod Limits
 pub mod Made
+pub mod NameTexts
 pub mod Paddings
 pub mod Places
 pub mod PutLines

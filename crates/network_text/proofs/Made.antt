@@ -2,13 +2,13 @@
 use Rattle.std.proofs.Common.{◌≡◌, ℕ, ◌<◌, List, Bool, true, false, IsTrue, zero, suc, None, length, refl, arith}
 use Rattle.std.specs.List.{IsDistinct}
 use Rattle.std.proofs.lemmas.Map.Made.{AllPairs-from_IsDistinct}
+use Rattle.std.proofs.lemmas.Slice.Eq.{bytes_eq-Decides}
+use Rattle.std.specs.Str.{bytes_eq}
 use Rattle.cut_model.specs.declared.network.Link.{Link}
 use Rattle.cut_model.specs.Net.{Net, IsInLimits, net_fault}
 use Rattle.cut_model.proofs.Faults.{faultless_if_in_limits}
 use Rattle.network_text.specs.Sheets.{IsSheet}
 use Rattle.network_text.specs.Readings.{IsWithinLimits}
-use Rattle.network_text.specs.contracts.name.NamePartialEq.TheImpl.{eq-value}
-use Rattle.network_text.proofs.SameNames.{eq-Decides}
 
 -- What isn't empty has an element.
 pub some-element : (count : ℕ) (empty : Bool) → (count ≡ 0 → IsTrue empty) → empty ≡ false → 0 < count
@@ -33,10 +33,10 @@ faultless names links routers small some same =
 
 -- and with the names they are a sheet.
 pub IsSheet-whole : (names : List (List ℕ)) (links : List Link) (routers : ℕ) (net : Net)
-    → IsWithinLimits names links → 0 < length names → IsDistinct (eq-value).it names → routers ≡ length names
+    → IsWithinLimits names links → 0 < length names → IsDistinct bytes_eq names → routers ≡ length names
     → net ≡ record { routers = routers; links = links } → IsSheet names net
 IsSheet-whole names links routers net small some distinct count same = rw (same, count) record {
-  distinct = AllPairs-from_IsDistinct eq-Decides names distinct;
+  distinct = AllPairs-from_IsDistinct bytes_eq-Decides names distinct;
   named = small.named;
   numbered = refl;
   limits = limits-whole names links small some;

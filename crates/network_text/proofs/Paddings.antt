@@ -9,7 +9,7 @@ use Rattle.text_forms.specs.declared.names.TheConstants.{MOST_NAME_BYTES}
 use Rattle.network_text.specs.Padding.{IsPadded}
 
 -- A name is short.
-name-short : (bytes : List ℕ) → IsTrue (is_name bytes) → length bytes ≤ MOST_NAME_BYTES
+pub name-short : (bytes : List ℕ) → IsTrue (is_name bytes) → length bytes ≤ MOST_NAME_BYTES
 name-short bytes named = grind (arith, nat_tests)
 
 -- They are padded.

@@ -11,7 +11,7 @@ use Rattle.std.proofs.lemmas.Slice.Eq.{bytes_eq-Decides}
 use Rattle.network_text.specs.Texts.{with_name, with_ends, place_of}
 
 -- Where some element passes, the first that does has a place.
-place-below : (p : List ℕ → Bool) (xs : List (List ℕ)) → list_any p xs ≡ true → position_or_len p xs < length xs
+pub place-below : (p : List ℕ → Bool) (xs : List (List ℕ)) → list_any p xs ≡ true → position_or_len p xs < length xs
 place-below p [] any = absurd (cc)
 place-below p (x ∷ xs) any =
     elim (cases_Bool (p x)) [

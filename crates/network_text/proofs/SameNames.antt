@@ -1,39 +1,29 @@
 -- Names are equal where their bytes are.
-use Rattle.std.proofs.Common.{◌≡◌, ℕ, ◌-◌, List, true, replicate, length, refl}
-use Rattle.std.proofs.Common.{subst, rules}
+use Rattle.std.proofs.Common.{◌≡◌, ℕ, List, ◌&&◌, take, length, ap, sym, ◌∙◌}
 use Rattle.std.specs.Bool.{Decides}
-use Rattle.std.proofs.Math.Dec.{eqb}
-use Rattle.std.proofs.Math.Path.{fun_ext}
-use Rattle.std.proofs.lemmas.Bool.{eq-eqb}
-use Rattle.std.proofs.lemmas.Bool.Decides.{same_from_decides}
-use Rattle.std.proofs.lemmas.Slice.Eq.{bytes_eq-Decides}
 use Rattle.std.specs.Str.{bytes_eq}
-use Rattle.std.proofs.lemmas.List.{take_at}
-use Rattle.text_forms.specs.declared.names.TheConstants.{MOST_NAME_BYTES}
-use Rattle.network_text.specs.Padding.{padded}
-use Rattle.network_text.specs.contracts.name.NamePartialEq.TheImpl.{eq-value}
+use Rattle.std.proofs.Math.Dec.{eqb}
+use Rattle.std.proofs.lemmas.Bool.{eq-eqb, eqb-true}
+use Rattle.std.proofs.lemmas.Bool.Decides.{Decides-and, same_from_decides}
+use Rattle.std.proofs.lemmas.Slice.Eq.{bytes_eq-Decides}
+use Rattle.network_text.specs.Padding.{IsPadded, padded, padded-front, length-front}
 
--- Names that are equal have the same bytes, zeros and all, and the same length.
-same_parts : (x y : List ℕ) → (eq-value).it x y ≡ true → (padded x ≡ padded y) × (length x ≡ length y)
-same_parts x y h = search rules
+-- What is padded, and its length, are told by the bytes of the name.
+same_parts : (len size : ℕ) (bytes others : List ℕ) → IsPadded len bytes → IsPadded size others
+    → take len bytes ≡ take size others → (len ≡ size) × (bytes ≡ others)
+same_parts len size bytes others is also same = (
+  sym (length-front len bytes is) ∙ ap length same ∙ length-front size others also,
+  sym (padded-front len bytes is) ∙ ap padded same ∙ padded-front size others also,
+)
 
--- Names that are equal have the same bytes.
-same-from_eq : (x y : List ℕ) → (eq-value).it x y ≡ true → x ≡ y
-same-from_eq x y h =
-    let parts = same_parts x y h in
-    let front = take_at x (replicate (MOST_NAME_BYTES - length x) 0) (length x) refl in
-    let other = take_at y (replicate (MOST_NAME_BYTES - length y) 0) (length y) refl in cc
-
--- A name is equal to itself.
-eq-same : (x : List ℕ) → (eq-value).it x x ≡ true
-eq-same x =
-    let bytes : bytes_eq (padded x) (padded x) ≡ true = (bytes_eq-Decides (padded x) (padded x)).1 refl in
-    let sizes : eqb (length x) (length x) ≡ true = eq-eqb (length x) (length x) refl in rw (bytes, sizes) refl
-
--- Names are equal exactly where their bytes are.
-pub eq-Decides : (x y : List ℕ) → Decides ((eq-value).it x y) (x ≡ y)
-eq-Decides x y = (same-from_eq x y, λ e. subst (λ (z : List ℕ). (eq-value).it x z ≡ true) e (eq-same x))
-
--- The equality of names is that of bytes.
-pub eq-bytes_eq : (eq-value).it ≡ bytes_eq
-eq-bytes_eq = fun_ext (λ x. fun_ext (λ y. same_from_decides _ _ (eq-Decides x y) (bytes_eq-Decides x y)))
+-- So two names are equal where their lengths and all their padded bytes are.
+pub names_equal : (len size : ℕ) (bytes others : List ℕ) → IsPadded len bytes → IsPadded size others
+    → (eqb len size && bytes_eq bytes others) ≡ bytes_eq (take len bytes) (take size others)
+names_equal len size bytes others is also =
+    let lengths : Decides (eqb len size) (len ≡ size) = (eqb-true len size, eq-eqb len size) in
+    let parts = Decides-and (eqb len size) (bytes_eq bytes others) lengths (bytes_eq-Decides bytes others) in
+    let fronts : Decides (eqb len size && bytes_eq bytes others) (take len bytes ≡ take size others) = (
+      λ h. let same = parts.0 h in λ i. take (same.0 i) (same.1 i),
+      λ e. parts.1 (same_parts len size bytes others is also e),
+    ) in
+    same_from_decides _ _ fronts (bytes_eq-Decides (take len bytes) (take size others))

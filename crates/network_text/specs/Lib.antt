@@ -4,3 +4,4 @@ pub mod Faults
 pub mod Texts
 pub mod Readings
 pub mod Writing
+pub mod NameTexts

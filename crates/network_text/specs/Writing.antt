@@ -1,6 +1,6 @@
 -- Sheets as texts, and texts as bytes.
-use Rattle.std.specs.Prelude.{ℕ, ◌+◌, length, List, [], ◌∷◌, ◌++◌, Bool, true, false, map, codes, decimal, slice_index_or}
-use Rattle.std.specs.Prelude.{Result, if◌then◌else◌}
+use Rattle.std.specs.Prelude.{ℕ, ◌+◌, length, List, [], ◌∷◌, ◌++◌, Bool, true, false, map, codes, decimal}
+use Rattle.std.specs.Prelude.{Result, if◌then◌else◌, slice_index_or}
 use Rattle.std.specs.List.{concat}
 use Rattle.cut_model.specs.declared.network.Link.{Link}
 use Rattle.network_text.specs.Sheets.{SheetView}

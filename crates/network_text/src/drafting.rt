@@ -1,6 +1,6 @@
 //! The names and links of a text so far.
 
-ghost use Rattle.std.specs.Prelude.{◌≡◌, ◌⊎◌, ◌<◌, ◌≤◌, true, length, nat_lt, IfErr, IfOk, OnOk};
+ghost use Rattle.std.specs.Prelude.{◌≡◌, ◌<◌, ◌≤◌, true, length, IfErr, IfOk, OnOk};
 ghost use Rattle.cut_model.specs.declared.network.TheConstants.{MOST_ROUTERS};
 ghost use Rattle.text_forms.specs.Words.{words_of};
 ghost use Rattle.network_text.specs.Readings.{Adds, Closes, IsBounded, IsRefusal, IsWithinLimits};
@@ -10,25 +10,16 @@ ghost use Rattle.network_text.specs.Texts.{with_link, with_name, with_names, wit
 use crate::fault::{TextFault, TextKind};
 use crate::name::Name;
 use crate::sheet::Sheet;
-use cut_model::{Link, MOST_CAPACITY, MOST_LINKS, MOST_ROUTERS, Network};
+use cut_model::{Link, MOST_CAPACITY, MOST_LINKS, MOST_ROUTERS, Network, NoMemory};
 use indexmap::IndexSet;
 use std::alloc::Global;
 use std::marker::Model;
-use std::sync::Arc;
 use text_forms::{
     is_long, is_passed, one_word, parse_number, split_word, three_words, without_return,
 };
 
-/// A name that isn't among the names, which are as many as a network may have.
-fn is_one_too_many(names: &IndexSet<Name>, name: Name) -> bool
-    requires few { length names.now.keys ≤ MOST_ROUTERS }
-    ensures { result ≡ nat_lt MOST_ROUTERS (length (with_name names.now.keys name)) }
-{
-    names.len() == MOST_ROUTERS as usize && !names.contains(&name)
-}
-
-/// The number of a router among the names, which a new name joins at their end. One that is one too many
-/// joins them at no moment.
+/// The number of a router among the names, which a new name joins at their end; each name is looked up
+/// once. One that is one too many joins them at no moment.
 fn number_in(names: &mut IndexSet<Name>, name: Name) -> Result<usize, TextKind>
     requires few { length names.old.keys ≤ MOST_ROUTERS }
     ensures named { OnOk result (names.new.keys ≡ with_name names.old.keys name) }
@@ -37,11 +28,25 @@ fn number_in(names: &mut IndexSet<Name>, name: Name) -> Result<usize, TextKind>
     ensures few { length names.new.keys ≤ MOST_ROUTERS }
     ensures refused { IfErr result (λ kind. IsRefusal (with_name names.old.keys name) kind) }
 {
-    if is_one_too_many(names, name) {
-        return Err(TextKind::TooManyRouters);
+    if names.len() == MOST_ROUTERS as usize {
+        return number_known(names, &name);
     }
     let (number, _) = names.insert_full(name)?;
     Ok(number)
+}
+
+/// The number of a router among as many names as a network may have.
+fn number_known(names: &IndexSet<Name>, name: &Name) -> Result<usize, TextKind>
+    requires full { length names.now.keys ≡ MOST_ROUTERS }
+    ensures named { OnOk result (names.now.keys ≡ with_name names.now.keys name.now) }
+    ensures number { IfOk result (λ number. number ≡ place_of names.now.keys name.now) }
+    ensures below { IfOk result (λ number. number < length names.now.keys) }
+    ensures refused { IfErr result (λ kind. IsRefusal (with_name names.now.keys name.now) kind) }
+{
+    match names.get_index_of(name) {
+        Some(number) => Ok(number),
+        None => Err(TextKind::TooManyRouters),
+    }
 }
 
 /// The names and links of a text so far, in order of appearance, and at no moment more of them than a
@@ -176,9 +181,9 @@ impl Drafting {
         let Ok(net) = Network::make(routers, links) else {
             unreachable!()
         };
-        match Arc::new(alloc, net) {
-            Ok(net) => Ok(Sheet::make(net, names)),
-            Err(_) => Err(TextFault {
+        match Sheet::make(alloc, net, names) {
+            Ok(sheet) => Ok(sheet),
+            Err(NoMemory) => Err(TextFault {
                 kind: TextKind::Memory,
                 line: end,
             }),

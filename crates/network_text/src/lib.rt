@@ -9,6 +9,7 @@
 mod drafting;
 mod fault;
 mod name;
+mod name_text;
 mod reader;
 mod sheet;
 #[cfg(test)]

@@ -4,12 +4,13 @@ ghost use Rattle.std.specs.Prelude.{◌≡◌, ◌≤◌, List, length, IfSome, 
 ghost use Rattle.text_forms.specs.Names.{is_name as name};
 ghost use Rattle.text_forms.specs.declared.names.TheConstants.{MOST_NAME_BYTES};
 
+use std::hash::{Hash, Hasher};
 use std::marker::Model;
 use text_forms::{MOST_NAME_BYTES, is_name};
 
 /// A name of 1 to [`MOST_NAME_BYTES`] bytes, each an ASCII letter, a digit, `.`, `_` or `-`. Contracts see
-/// its bytes.
-#[derive(Clone, Copy, PartialEq, Eq, Hash)]
+/// its bytes. A hash of it is one of these bytes alone, written at once.
+#[derive(Clone, Copy)]
 pub struct Name {
     bytes: [u8; MOST_NAME_BYTES],
     len: u8,
@@ -67,5 +68,40 @@ impl Name {
             bytes: padded,
             len: bytes.len() as u8,
         }
+    }
+}
+
+impl PartialEq for Name {
+    ghost use Rattle.std.proofs.Common.{rules};
+    ghost use Rattle.std.specs.Cmp.Lexicographic.{nat_list_eq_equiv};
+    ghost use Rattle.std.specs.Cmp.Rules.{comparing};
+    ghost use Rattle.std.specs.Str.{bytes_eq};
+
+    ghost eq = { bytes_eq };
+
+    ghost laws = { Prim.search (comparing, rules) };
+
+    fn eq(&self, other: &Name) -> bool {
+        self.len == other.len && self.bytes == other.bytes
+    }
+}
+
+impl Eq for Name {
+    ghost use Rattle.std.specs.Cmp.Lexicographic.{nat_list_eq_equiv};
+
+    ghost laws = { nat_list_eq_equiv };
+}
+
+impl Hash for Name {
+    ghost use Rattle.std.proofs.Common.{ap};
+    ghost use Rattle.std.specs.Cmp.Lexicographic.{bytes_decides};
+    ghost use Rattle.std.specs.Prelude.{[], ◌∷◌};
+
+    ghost hash_input = { λ name. name ∷ [] };
+
+    ghost respects_eq = { λ name other same. ap (λ bytes. bytes ∷ []) ((bytes_decides name other).0 same) };
+
+    fn hash<H: Hasher>(&self, state: &mut H) {
+        state.write(self.as_bytes());
     }
 }

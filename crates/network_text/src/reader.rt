@@ -73,8 +73,8 @@ impl Reader {
     /// what was kept is let go, and later lines are only looked at for END. `link a b 7` gives `More`, and
     /// then two names and a link are kept; `END` gives `Ended`.
     ///
-    /// One look-up for each name, two where there are as many as a network may have, and the memory of what
-    /// the line names. At most 2^31 lines may come before END.
+    /// One look-up for each name, and the memory of what the line names. At most 2^31 lines may come before
+    /// END.
     pub fn line(&mut self, line: &[u8]) -> Fed
         requires open { IsFalse self.old.ended }
         requires few { self.old.progress.lines < 2 ^ 31 }

@@ -14,5 +14,6 @@ fn small_text(rt: HostRuntime) -> Result<(), Fail> {
     assert_eq!(rt; sheet.number_of(b"Right"), None);
     assert_eq!(rt; sheet.net().routers(), 2);
     assert_eq!(rt; sheet.name_of(0), b"left".as_slice());
+    assert_eq!(rt; sheet.names_between(0, 2), b" left right".as_slice());
     Ok(())
 }

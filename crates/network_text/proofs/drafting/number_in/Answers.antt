@@ -1,9 +1,6 @@
-use Rattle.network_text.proofs.Adding.{inserted, inserted-few, placed}
+use Rattle.std.proofs.Common.{◌∙◌}
+use Rattle.network_text.proofs.Adding.{inserted-few, placed}
 use Rattle.network_text.proofs.drafting.number_in.Goals as goal
-
-pub returns-clause-named : goal.returns-clause-named
-returns-clause-named c =
-    inserted c.args.names.now.keys c.insert_full.new.self.keys c.args.name c.in_ok-number.ensures.keys
 
 pub returns-clause-number : goal.returns-clause-number
 returns-clause-number c =
@@ -12,5 +9,5 @@ returns-clause-number c =
 
 pub returns-clause-few : goal.returns-clause-few
 returns-clause-few c =
-    inserted-few c.args.names.now.keys c.insert_full.new.self.keys c.args.name c.is_one_too_many.result
-    c.in_ok-number.ensures.keys c.is_one_too_many.ensures c.if-is_one_too_many.false
+    inserted-few c.args.names.now.keys c.insert_full.new.self.keys c.args.name c.in_ok-number.ensures.keys
+    c.requires.few (λ full. c.if-len.false (c.len.ensures.len ∙ full))

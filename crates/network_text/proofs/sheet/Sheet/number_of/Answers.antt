@@ -7,7 +7,7 @@ pub returns-in_err-name : goal.returns-in_err-name
 returns-in_err-name c =
     let names = ap (λ (v : SheetView). v.names) c.self.view_is in
     c.from_residual.ensures
-    ∙ sym (number_of-no_name c.args.self.now.names c.args.name.now (rw names at c.self.invariant.named)
+    ∙ sym (number_of-no_name c.args.self.now.names c.args.name.now (rw names at c.self.invariant.sheet.named)
     c.in_err-name.ensures.none)
 
 pub returns-in_err-number : goal.returns-in_err-number
