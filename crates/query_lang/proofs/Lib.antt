@@ -10,4 +10,5 @@ pub mod Places
 pub mod Promises
 pub mod ReportLines
 pub mod RequestKinds
+pub mod Sought
 pub mod SameNames

@@ -4,4 +4,5 @@ pub mod Laws
 pub mod Replies
 pub mod Reports
 pub mod Requests
+pub mod Runs
 pub mod Trees

@@ -1,5 +1,5 @@
 -- The texts of replies. Each begins with the version of the network that it speaks of.
-use Rattle.std.specs.Prelude.{ℕ, ◌+◌, List, [], ◌∷◌, ◌++◌, Bool, length, codes, decimal, map, if◌then◌else◌, None}
+use Rattle.std.specs.Prelude.{ℕ, List, [], ◌∷◌, ◌++◌, Bool, length, codes, decimal, if◌then◌else◌, None}
 use Rattle.std.specs.Prelude.{Some}
 use Rattle.std.specs.List.{concat}
 use Rattle.std.specs.declared.option.Option.{Option}

@@ -1,36 +1,34 @@
 //! Replies that tell a cut: its value, and the names of the routers on its side.
-ghost use Rattle.std.specs.Prelude.{◌≡◌, ◌<◌, [], length, slice_index_or, false};
-ghost use Rattle.query_lang.specs.Replies.{cut_head, cut_text, name_piece, side_names};
+ghost use Rattle.std.specs.Prelude.{◌≡◌, ◌≤◌, length};
+ghost use Rattle.network_text.specs.NameTexts.{blank_names_between};
+ghost use Rattle.query_lang.specs.Replies.{cut_head, cut_text, side_names};
 ghost use Rattle.wires.specs.Puts.{Puts};
 
+use crate::runs::{Run, next_run};
 use cut_model::Side;
 use itoa::Buffer;
 use network_text::Sheet;
 use wires::{Failed, Sink, put_pieces};
 
-/// Writes a space and the name of the router, where it is in the side.
-#[tactic(auto, using(std::proofs::lemmas::Option::get_or_from_slice_get))]
-fn write_name<K: Sink>(sheet: &Sheet, side: &Side, router: u32, sink: &mut K) -> Result<(), Failed>
-    requires named { router < length sheet.now.names }
-    requires sided { router < length side.now }
-    ensures puts { Puts K.Sink sink.old sink.new result
-        (name_piece (slice_index_or sheet.now.names router [])
-        (slice_index_or side.now router false)) }
+/// Writes a space and the name of each router of a run.
+fn write_run<K: Sink>(sheet: &Sheet, run: Run, sink: &mut K) -> Result<(), Failed>
+    requires order { run.begin ≤ run.end }
+    requires within { run.end ≤ length sheet.now.names }
+    ensures puts { Puts K.Sink sink.old sink.new result (blank_names_between sheet.now.names run.begin run.end) }
 {
-    if side.has(router) {
-        put_pieces(&[b" ", sheet.name_of(router)], sink)
-    } else {
-        Ok(())
-    }
+    put_pieces(&[sheet.names_between(run.begin, run.end)], sink)
 }
 
-/// Writes a space and the name of each router of the side, in number order.
+/// Writes a space and the name of each router of the side, in number order, run by run.
 fn write_names<K: Sink>(sheet: &Sheet, side: &Side, sink: &mut K) -> Result<(), Failed>
     requires { length side.now ≡ length sheet.now.names }
     ensures puts { Puts K.Sink sink.old sink.new result (side_names sheet.now.names side.now) }
 {
-    for router in 0..side.size() {
-        write_name(sheet, side, router, sink)?;
+    let mut from = 0;
+    while from < side.size() {
+        let run = next_run(side, from);
+        write_run(sheet, run, sink)?;
+        from = run.end;
     }
     Ok(())
 }
@@ -56,7 +54,7 @@ fn write_cut_head<K: Sink>(version: u32, word: &str, value: u64, sink: &mut K) -
 }
 
 /// Writes a reply that tells a cut: its word, the cut's value, and the names of the routers of the
-/// side, in number order. It looks at each router once.
+/// side, in number order. It looks at 64 routers at once, and puts the names of a run of routers at once.
 #[tactic(auto, unfolding(crate::specs::Replies::cut_text))]
 pub(crate) fn write_cut<K: Sink>(
     version: u32,

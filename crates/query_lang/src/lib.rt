@@ -14,6 +14,7 @@ mod replies;
 mod report;
 mod reports;
 mod request;
+mod runs;
 mod subject;
 mod trees;
 
