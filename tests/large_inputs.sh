@@ -107,6 +107,40 @@ foot=$(awk 'END { print $1 }' "$room/chain")
 try the_longest_chain_is_its_own_tree_and_path 0 "$room/wanted" "$room/stdin" plan
 try_in_pieces the_longest_chain_is_its_own_tree_and_path 0 "$room/wanted" "$room/stdin" plan
 
+# A chain of the most routers whose link in the middle is the narrowest: the edge above r501 is the least of each
+# path across it, and the weakest of all, with all routers from r501 on below it.
+{
+    echo LOAD
+    awk 'BEGIN { for (i = 0; i < 1023; i++) print "link r" i " r" i + 1 " " (i == 500 ? 3 : 1000 + i) }'
+    printf '%s\n' END WEAKEST 'CUT r0 r1023' 'CUT r1023 r0' 'CUT r500 r501' 'CUT r501 r1023' 'CUT r3 r7' \
+        'PATH r0 r1023'
+} >"$room/stdin"
+{
+    echo '@1 LOADED routers 1024 links 1023'
+    awk '
+        function names(from, to) {
+            told = ""
+            for (i = from; i <= to; i++) {
+                told = told " r" i
+            }
+            return told
+        }
+        BEGIN {
+            print "@1 WEAKEST 3 side" names(501, 1023)
+            print "@1 CUT 3 side" names(0, 500)
+            print "@1 CUT 3 side" names(501, 1023)
+            print "@1 CUT 3 side" names(0, 500)
+            print "@1 CUT 1501 side" names(0, 501)
+            print "@1 CUT 1003 side" names(0, 3)
+            print "@1 PATH 1023"
+            for (i = 0; i < 1023; i++) {
+                print "r" i + 1 " r" i " " (i == 500 ? 3 : 1000 + i)
+            }
+        }'
+} >"$room/wanted"
+try a_chain_that_is_narrowest_in_the_middle 0 "$room/wanted" "$room/stdin" plan
+try_in_pieces a_chain_that_is_narrowest_in_the_middle 0 "$room/wanted" "$room/stdin" plan
+
 # The widest edge that there may be.
 {
     printf '%s\n' LOAD

@@ -13,7 +13,7 @@ use Rattle.tree_state.specs.Tables.{Table, below}
 use Rattle.tree_state.specs.Views.{TreeView, up_of, HoldsCutTree}
 use Rattle.tree_state.proofs.Forest.{some_up-suc}
 use Rattle.tree_state.proofs.Trees.{Tree, tree_of, tree-longer, tree_below-root, tree_below_is, tree_below-up}
-use Rattle.path_minimum.specs.Ladders.{depth_in, depth_of}
+use Rattle.path_minimum.specs.Depths.{depth_in, depth_of}
 
 -- ---- below a router, one step up
 

@@ -13,7 +13,7 @@ use Rattle.cut_model.specs.Terminals.{number_in}
 use Rattle.cut_model.proofs.Terminals.{all_terminals, terminal-lt}
 use Rattle.tree_state.specs.Tables.{Table, some_up, below}
 use Rattle.tree_state.specs.Paths.{parts, IsOnPath, IsLeastEdge}
-use Rattle.path_minimum.specs.Ladders.{depth_in}
+use Rattle.path_minimum.specs.Depths.{depth_in}
 use Rattle.path_minimum.specs.Paths.{IsOnPathAbove, IsOrderedPath}
 use Rattle.path_minimum.proofs.Orders.{among-contained, contains-among}
 use Rattle.path_minimum.proofs.SizesBelow.{rises-none, rises-one, rises-more}

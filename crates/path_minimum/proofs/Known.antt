@@ -9,7 +9,7 @@ use Rattle.cut_model.specs.Cuts.{set_of}
 use Rattle.cut_model.specs.Terminals.{root_of}
 use Rattle.tree_state.specs.Views.{TreeView, up_of, HoldsCutTree}
 use Rattle.tree_state.proofs.Decided.{put_in, put_stays}
-use Rattle.path_minimum.specs.Ladders.{depth_of}
+use Rattle.path_minimum.specs.Depths.{depth_of}
 use Rattle.path_minimum.specs.Walks.{AreKnown}
 use Rattle.path_minimum.proofs.Depths.{depth_of-root, depth_of-suc}
 

@@ -14,7 +14,7 @@ use Rattle.cut_model.specs.Terminals.{IsTerminal}
 use Rattle.cut_model.proofs.Terminals.{terminal-lt}
 use Rattle.tree_state.specs.Views.{TreeView, up_of, HoldsCutTree}
 use Rattle.tree_state.proofs.Trees.{Tree}
-use Rattle.path_minimum.specs.Ladders.{depth_of}
+use Rattle.path_minimum.specs.Depths.{depth_of}
 use Rattle.path_minimum.specs.Paths.{size_below, IsOnPathAbove, IsOrderedPath}
 use Rattle.path_minimum.specs.Walks.{way_between, IsMeeting}
 use Rattle.path_minimum.proofs.Depths.{tree_in, depth_of-lt}

@@ -1,11 +1,11 @@
 -- What one step up from its deeper end does to a path.
 use Rattle.std.proofs.Common.{◌≢◌, ℕ, ◌≤◌, sym, ◌∙◌, refl}
-use Rattle.std.proofs.lemmas.Bool.{false≢true, ne_eqb}
+use Rattle.std.proofs.lemmas.Bool.{false≢true}
 use Rattle.cut_model.specs.Net.{Net}
 use Rattle.cut_model.specs.Terminals.{IsTerminal}
 use Rattle.tree_state.specs.Paths.{IsOnPath}
-use Rattle.tree_state.proofs.Paths.{differ_comm, differ-same, deeper-not_root, on_path-deeper, on_path-up}
-use Rattle.tree_state.proofs.Trees.{Tree, tree_below, tree_below_is}
+use Rattle.tree_state.proofs.Paths.{differ_comm, differ-same, deeper-not_root, on_path-deeper}
+use Rattle.tree_state.proofs.Trees.{Tree, tree_below}
 
 -- no edge is on the path of a router and itself
 pub on_path-none : (net : Net) (t : Tree net) (a c : ℕ) → IsOnPath net t.up a a c → ⊥
@@ -34,20 +34,3 @@ pub on_path-low : (net : Net) (t : Tree net) (a b : ℕ) → IsTerminal net a �
     → t.depth b ≤ t.depth a → a ≢ b → IsOnPath net t.up a b a
 on_path-low net t a b a_is b_is low apart =
     on_path-deeper net t a b a_is b_is low (λ e. apart (sym e)) (low-not_root net t a b b_is low apart)
-
--- what is on the path from the router above it is on the path from the deeper one
-pub on_path-step : (net : Net) (t : Tree net) (a b c : ℕ) → IsTerminal net a → IsTerminal net b
-    → t.depth b ≤ t.depth a → a ≢ b → IsOnPath net t.up (t.up a) b c → IsOnPath net t.up a b c
-on_path-step net t a b c a_is b_is low apart above =
-    on_path-up net t a b c a_is b_is low (λ e. apart (sym e)) (low-not_root net t a b b_is low apart)
-    (on_path-not_root net t (t.up a) b c (t.up_is a a_is) b_is above) above
-
--- and the rest of the path from the deeper one is the path from the router above it
-pub on_path-rest : (net : Net) (t : Tree net) (a b c : ℕ) → IsTerminal net a → IsTerminal net b → a ≢ c
-    → IsOnPath net t.up a b c → IsOnPath net t.up (t.up a) b c
-on_path-rest net t a b c a_is b_is other on_path = record {
-  terminal = on_path.terminal;
-  parting =
-      rw (tree_below_is net t c a (on_path-not_root net t a b c a_is b_is on_path) a_is, ne_eqb a c other)
-      at on_path.parting;
-}

@@ -13,7 +13,7 @@ use Rattle.cut_model.proofs.Counting.{number_in-same}
 use Rattle.cut_model.proofs.Terminals.{terminal-lt}
 use Rattle.tree_state.proofs.Trees.{Tree, tree_below, tree_below-up}
 use Rattle.path_minimum.specs.Paths.{size_below}
-use Rattle.path_minimum.specs.Ladders.{depth_in}
+use Rattle.path_minimum.specs.Depths.{depth_in}
 use Rattle.path_minimum.specs.Walks.{IsMeeting}
 use Rattle.path_minimum.proofs.Depths.{above, below_step}
 use Rattle.path_minimum.proofs.Ways.{way, way-none, way-suc, below-deeper, below-above, below-self, below-through}

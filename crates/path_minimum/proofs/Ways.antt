@@ -10,7 +10,7 @@ use Rattle.cut_model.specs.Terminals.{IsTerminal}
 use Rattle.tree_state.specs.Tables.{Table, way_up, below}
 use Rattle.tree_state.specs.Views.{TreeView, up_of, HoldsCutTree}
 use Rattle.tree_state.proofs.Trees.{Tree, tree_below, tree_below_is, tree_below-self, tree_below-high, tree_below-root}
-use Rattle.path_minimum.specs.Ladders.{depth_of}
+use Rattle.path_minimum.specs.Depths.{depth_of}
 use Rattle.path_minimum.specs.Paths.{IsOnPathAbove}
 use Rattle.path_minimum.specs.Walks.{way_between, IsMeeting}
 use Rattle.path_minimum.proofs.Depths.{tree_in}

@@ -1,4 +1,8 @@
+pub mod Depths
+pub mod Jumps
+pub mod Stretches
 pub mod Ladders
 pub mod Paths
 pub mod Walks
+pub mod Passing
 pub mod Laws

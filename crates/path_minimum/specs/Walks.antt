@@ -1,5 +1,5 @@
 -- What walks up a tree leave.
-use Rattle.std.specs.Prelude.{◌≡◌, ◌≢◌, ℕ, ◌-◌, ◌<◌, ◌≤◌, ◌&&◌, true, Bool, List, length, slice_index, Some, None}
+use Rattle.std.specs.Prelude.{◌≡◌, ◌≢◌, ◌⊎◌, ℕ, ◌-◌, ◌<◌, ◌≤◌, ◌&&◌, true, Bool, List, length, slice_index, Some, None}
 use Rattle.std.specs.declared.option.Option.{Option}
 use Rattle.cut_model.specs.Net.{Net}
 use Rattle.cut_model.specs.Cuts.{set_of}
@@ -7,7 +7,7 @@ use Rattle.cut_model.specs.Terminals.{IsTerminal, root_of}
 use Rattle.tree_state.specs.Tables.{Table, way_up, below}
 use Rattle.tree_state.specs.Views.{TreeView, up_of, width_of}
 use Rattle.path_minimum.specs.declared.least_edge.PathLeast.{PathLeast}
-use Rattle.path_minimum.specs.Ladders.{depth_of}
+use Rattle.path_minimum.specs.Depths.{depth_of}
 
 -- The root is known, and of each known router the list has the depth.
 pub record AreKnown (tree : TreeView) (known : List Bool) (depths : List ℕ) : Type 0 where
@@ -46,3 +46,9 @@ pub record IsWeakestOf (tree : TreeView) (end : ℕ) (edge : PathLeast) : Type 0
 abbrev pub IsWeakestBelow : TreeView → ℕ → Option PathLeast → Type 0
 IsWeakestBelow tree end None = (c : ℕ) → c < end → IsTerminal tree.net c → c ≡ root_of tree.net
 IsWeakestBelow tree end (Some edge) = IsWeakestOf tree end edge
+
+-- Of two edges the one that comes first.
+pub record IsLesser (result one other : PathLeast) : Type 0 where
+  pub either : (result ≡ one) ⊎ (result ≡ other)
+  pub before_one : ComesFirst result one
+  pub before_other : ComesFirst result other

@@ -6,7 +6,7 @@ ghost use Rattle.cut_model.specs.declared.network.TheConstants.{MOST_ROUTERS};
 ghost use Rattle.tree_state.specs.Views.{up_of, HoldsCutTree};
 ghost use Rattle.tree_state.specs.Shown.{ShowsSet};
 ghost use Rattle.tree_state.specs.Tables.{below};
-ghost use Rattle.path_minimum.specs.Ladders.{depth_of};
+ghost use Rattle.path_minimum.specs.Depths.{depth_of};
 ghost use Rattle.path_minimum.specs.Paths.{IsOrderedPath};
 ghost use Rattle.path_minimum.specs.Walks.{way_between, IsMeeting};
 

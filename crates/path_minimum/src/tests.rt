@@ -4,7 +4,9 @@ ghost use Rattle.cut_model.specs.Terminals.{IsTerminal};
 ghost use Rattle.cut_model.specs.declared.network.TheConstants.{MOST_ROUTERS};
 ghost use Rattle.path_minimum.specs.Ladders.{IsLadderOf};
 
-use crate::{Ladder, PathLeast, PathRoom, least_on_path_uncounted, path, side_holding, weakest};
+use crate::{
+    Ladder, PathLeast, PathRoom, least_on_path_uncounted, path, side_by_ladder, side_holding,
+};
 use commit_rule::complete;
 use cut_model::{LeastCut, Network, Side};
 use std::alloc::Global;
@@ -107,6 +109,10 @@ fn answers_from_a_row_of_six(rt: HostRuntime) -> Result<(), Fail> {
     assert!(&rt; tree.net().routers() == 6);
     assert_eq!(rt; side_holding(&tree, 3, 5).count(), 2);
     assert_eq!(rt; side_holding(&tree, 3, 0).count(), 4);
-    assert_eq!(rt; weakest(&tree), Some(one));
+    let Some(weakest) = ladder.weakest(&tree) else {
+        return Err("no weakest edge".into());
+    };
+    assert_eq!(rt; weakest.edge, one);
+    assert_eq!(rt; weakest.side.count(), 3);
     Ok(())
 }

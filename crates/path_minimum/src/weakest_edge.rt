@@ -1,5 +1,6 @@
 //! The weakest edge of a tree.
 ghost use Rattle.std.specs.Prelude.{◌≡◌, ◌↔◌, ◌+◌, ◌<◌, IsNone, IfSome};
+ghost use Rattle.path_minimum.specs.Ladders.{IsWeakestCutOf};
 ghost use Rattle.cut_model.specs.Terminals.{terminal_count, root_of};
 ghost use Rattle.tree_state.specs.Views.{up_of, width_of};
 ghost use Rattle.tree_state.specs.Paths.{IsWeakest, IsGlobalCut};
@@ -7,7 +8,18 @@ ghost use Rattle.tree_state.specs.Tables.{below};
 ghost use Rattle.path_minimum.specs.Walks.{IsWeakestBelow};
 
 use crate::least_edge::{PathLeast, edge_above, lesser};
-use tree_state::Finished;
+use cut_model::Side;
+use tree_state::{Finished, side_below};
+
+/// The weakest edge of a tree, and the routers below it: a least cut of the whole network (Gomory and Hu,
+/// 1961).
+#[derive(Clone, Copy)]
+pub struct WeakestCut {
+    /// The edge of the smallest width, and of these that whose lower end has the smallest number.
+    pub edge: PathLeast,
+    /// The routers below the edge.
+    pub side: Side,
+}
 
 /// The weakest of the edges above the routers up to this one, by the weakest of those before it.
 fn weaker(finished: &Finished, child: u32, before: Option<PathLeast>) -> Option<PathLeast>
@@ -28,13 +40,8 @@ fn weaker(finished: &Finished, child: u32, before: Option<PathLeast>) -> Option<
     }
 }
 
-/// The weakest edge of the tree: that of the smallest width, and of these that whose lower end has the
-/// smallest number. What is below it is a least cut of the whole network (Gomory and Hu, 1961). `None`
-/// where there is one terminal alone. It looks at each router once.
-///
-/// Where 1 hangs from 0 by an edge of width 5 and 2 from 1 by one of 7, `weakest(&finished)` gives
-/// `Some(PathLeast { child: 1, width: 5 })`.
-pub fn weakest(finished: &Finished) -> Option<PathLeast>
+/// The weakest edge of the tree; none where there is one terminal alone. It looks at each router once.
+fn weakest(finished: &Finished) -> Option<PathLeast>
     ensures none { IsNone result ↔ (terminal_count finished.now.tree.net ≡ 1) }
     ensures edge { IfSome result (λ edge.
         IsWeakest finished.now.tree.net (root_of finished.now.tree.net) (width_of finished.now.tree) edge.child) }
@@ -48,4 +55,13 @@ pub fn weakest(finished: &Finished) -> Option<PathLeast>
         least = weaker(finished, child, least);
     }
     least
+}
+
+/// The weakest edge of the tree with its side; none where there is one terminal alone.
+pub(crate) fn weakest_cut(finished: &Finished) -> Option<WeakestCut>
+    ensures { IsWeakestCutOf finished.now.tree result }
+{
+    let edge = weakest(finished)?;
+    let side = side_below(finished, edge.child);
+    Some(WeakestCut { edge, side })
 }

@@ -17,8 +17,7 @@ use crate::subject::Subject;
 use crate::trees::{PassedEdges, write_path_line, write_run_line, write_tree_line};
 use cut_model::{MOST_ROUTERS, Side};
 use network_text::sheet_line_count;
-use path_minimum::{PathRoom, least_on_path_uncounted, path, side_holding, weakest};
-use tree_state::side_below;
+use path_minimum::{PathRoom, least_on_path_uncounted, path, side_by_ladder};
 use wires::{Failed, Sink};
 
 /// A cut: its value, and the routers on its side.
@@ -55,7 +54,7 @@ fn find_least_cut(subject: &Subject, a: u32, b: u32) -> FoundCut
 {
     prove!(a.max(b) < subject.sheet.net().routers());
     let least = least_on_path_uncounted(subject.ladder, subject.finished, a, b);
-    let side = side_holding(subject.finished, least.child, a);
+    let side = side_by_ladder(subject.ladder, subject.finished, least.child, a);
     FoundCut {
         value: least.width,
         side,
@@ -81,13 +80,12 @@ fn find_weakest(subject: &Subject) -> FoundCut
     ensures size { length result.side ≡ length subject.now.sheet.now.names }
 {
     prove!(subject.sheet.net().routers() <= MOST_ROUTERS);
-    let Some(edge) = weakest(subject.finished) else {
+    let Some(cut) = subject.ladder.weakest(subject.finished) else {
         unreachable!()
     };
-    let side = side_below(subject.finished, edge.child);
     FoundCut {
-        value: edge.width,
-        side,
+        value: cut.edge.width,
+        side: cut.side,
     }
 }
 

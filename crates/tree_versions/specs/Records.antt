@@ -3,7 +3,7 @@ use Rattle.std.specs.Prelude.{◌≡◌, ℕ, zero, suc, List, ◌++◌, slice_g
 use Rattle.std.specs.declared.option.Option.{Option}
 use Rattle.cut_model.specs.Net.{Net}
 use Rattle.network_text.specs.Sheets.{SheetView}
-use Rattle.path_minimum.specs.Ladders.{IsLadderOf}
+use Rattle.path_minimum.specs.Ladders.{IsLadderOf, LadderView}
 use Rattle.tree_state.specs.Views.{TreeView, HoldsCutTree}
 use Rattle.tree_state.specs.History.{IsComplete}
 use Rattle.tree_state.specs.declared.entry.Entry.{Entry}
@@ -19,11 +19,11 @@ tree_of seen = record { net = seen.sheet.net; history = seen.history }
 
 -- A network, a finished tree and a ladder belong together: the tree is one of this network, with a complete run and
 -- least cuts, and the ladder was made for it.
-pub record BelongTogether (net : Net) (tree : TreeView) (ladder : List ℕ) : Type 0 where
+pub record BelongTogether (net : Net) (tree : TreeView) (ladder : LadderView) : Type 0 where
   pub same : tree.net ≡ net
   pub complete : IsComplete tree.net tree.history
   pub cuts : HoldsCutTree tree
-  pub rungs : IsLadderOf tree ladder
+  pub made : IsLadderOf tree ladder
 
 -- Each record holds a complete history of its own network.
 abbrev pub AreFinished : List RecordView → Type 0

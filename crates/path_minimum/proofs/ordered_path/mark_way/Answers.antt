@@ -3,7 +3,7 @@ use Rattle.std.proofs.lemmas.List.{length-set, get_or-set_other}
 use Rattle.cut_model.specs.Terminals.{root_of}
 use Rattle.cut_model.proofs.Terminals.{terminal-lt}
 use Rattle.tree_state.specs.Views.{up_of}
-use Rattle.path_minimum.specs.Ladders.{depth_of}
+use Rattle.path_minimum.specs.Depths.{depth_of}
 use Rattle.path_minimum.proofs.Depths.{depth_of-suc}
 use Rattle.path_minimum.proofs.Marks.{marked-more, marked-all}
 use Rattle.path_minimum.proofs.ordered_path.mark_way.Goals as goal

@@ -3,7 +3,7 @@ use Rattle.cut_model.specs.Cuts.{set_of}
 use Rattle.cut_model.specs.Terminals.{IsTerminal, root_of}
 use Rattle.tree_state.specs.Views.{up_of}
 use Rattle.tree_state.specs.Tables.{below}
-use Rattle.path_minimum.specs.Ladders.{depth_of}
+use Rattle.path_minimum.specs.Depths.{depth_of}
 use Rattle.path_minimum.proofs.ordered_path.mark_way.Given as goal
 
 -- what has the router below it is marked, or has this one below it

@@ -2,7 +2,7 @@ use Rattle.std.proofs.Common.{◌≡◌, suc, ◌<◌, false, sym, ◌∙◌, ap
 use Rattle.std.proofs.lemmas.Bool.{false≢true}
 use Rattle.cut_model.proofs.Terminals.{terminal-lt}
 use Rattle.tree_state.specs.Views.{up_of}
-use Rattle.path_minimum.specs.Ladders.{depth_of}
+use Rattle.path_minimum.specs.Depths.{depth_of}
 use Rattle.path_minimum.proofs.Depths.{tree_in, depth_of-suc}
 use Rattle.path_minimum.proofs.Marks.{below_in, shared-more, shared-all}
 use Rattle.path_minimum.proofs.ordered_path.meeting_of.Goals as goal

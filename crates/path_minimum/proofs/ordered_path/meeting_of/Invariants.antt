@@ -2,7 +2,7 @@ use Rattle.std.proofs.Common.{◌≡◌, ℕ, ◌&&◌}
 use Rattle.cut_model.specs.Terminals.{IsTerminal}
 use Rattle.tree_state.specs.Views.{up_of}
 use Rattle.tree_state.specs.Tables.{below}
-use Rattle.path_minimum.specs.Ladders.{depth_of}
+use Rattle.path_minimum.specs.Depths.{depth_of}
 use Rattle.path_minimum.proofs.ordered_path.meeting_of.Given as goal
 
 -- what has both terminals below it has the first one and this router below it

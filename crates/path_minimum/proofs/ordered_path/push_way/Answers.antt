@@ -2,7 +2,7 @@ use Rattle.std.proofs.Common.{◌≡◌, ℕ, suc, ◌<◌, ◌++◌, ◌∷◌,
 use Rattle.std.proofs.lemmas.List.{append_assoc, append-nil}
 use Rattle.cut_model.proofs.Terminals.{terminal-lt}
 use Rattle.tree_state.specs.Views.{up_of}
-use Rattle.path_minimum.specs.Ladders.{depth_of}
+use Rattle.path_minimum.specs.Depths.{depth_of}
 use Rattle.path_minimum.specs.Walks.{way_between}
 use Rattle.path_minimum.proofs.Depths.{tree_in, depth_of-suc, depth_of-root}
 use Rattle.path_minimum.proofs.Ways.{below-deeper, below-above, way_between-suc, way_between-none}

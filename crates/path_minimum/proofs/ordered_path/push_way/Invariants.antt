@@ -3,7 +3,7 @@ use Rattle.cut_model.specs.Terminals.{IsTerminal}
 use Rattle.cut_model.specs.declared.network.TheConstants.{MOST_ROUTERS}
 use Rattle.tree_state.specs.Views.{up_of}
 use Rattle.tree_state.specs.Tables.{below}
-use Rattle.path_minimum.specs.Ladders.{depth_of}
+use Rattle.path_minimum.specs.Depths.{depth_of}
 use Rattle.path_minimum.specs.Walks.{way_between}
 use Rattle.path_minimum.proofs.ordered_path.push_way.Given as goal
 

@@ -23,5 +23,5 @@ returns-clause-report c = λ version.
     let least = c.least_on_path_uncounted-least in
     let a_in : c.args.a < tree.net.routers = omega (arith, routers, a_low) in
     let b_in : c.args.b < tree.net.routers = omega (arith, routers, b_low) in
-    cut_report version sheet tree c.args.a c.args.b least.result.child least.result.width c.side_holding-side.result
-    limits a_in b_in least.ensures.edge least.ensures.width least.ensures.least c.side_holding-side.ensures
+    cut_report version sheet tree c.args.a c.args.b least.result.child least.result.width c.side_by_ladder-side.result
+    limits a_in b_in least.ensures.edge least.ensures.width least.ensures.least c.side_by_ladder-side.ensures
