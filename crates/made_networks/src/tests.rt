@@ -1,10 +1,18 @@
 //! Networks that seeds make and what they are summed up by: the numbers are worked by hand.
-use crate::{make_network, sum_up, write_summary};
-use cut_model::{Link, Network};
+ghost use Rattle.std.specs.Prelude.{◌≤◌, IfOk};
+ghost use Rattle.cut_model.specs.declared.network.TheConstants.{MOST_LINKS, MOST_ROUTERS};
+ghost use Rattle.made_networks.specs.Draws.{made_net};
+ghost use Rattle.made_networks.specs.Summaries.{IsSummaryOf};
+ghost use Rattle.made_networks.specs.declared.draws.TheConstants.{MOST_SEED};
+
+use crate::{Summary, make_network, sum_up, write_summary};
+use cut_model::{Link, Network, NoMemory};
 use path_minimum::Ladder;
+use std::alloc::Global;
 use std::process::Abort;
-use std::sync::Arc;
+use std::sync::{Arc, Wait};
 use std::test::Fail;
+use std::thread::Threads;
 use wires::MemorySink;
 use worker_gate::{OpenGate, build_tree};
 
@@ -33,13 +41,29 @@ fn networks_that_seeds_make(rt: HostRuntime) -> Result<(), Fail> {
     Ok(())
 }
 
+/// The summary of the network that a seed makes, by a tree that two workers build.
+fn made_summary<R: Threads + Wait + Sync>(
+    alloc: Global,
+    rt: &R,
+    seed: u32,
+    routers: u32,
+    links: u32,
+) -> Result<Summary, NoMemory>
+    requires seed { seed ≤ MOST_SEED }
+    requires two { 2 ≤ routers }
+    requires few_routers { routers ≤ MOST_ROUTERS }
+    requires few_links { links ≤ MOST_LINKS }
+    ensures { IfOk result (λ summary. IsSummaryOf (made_net seed routers links) summary) }
+{
+    let net = Arc::new(alloc, make_network(alloc, seed, routers, links)?)?;
+    let tree = build_tree(alloc, rt, &net, 2, &OpenGate)?;
+    let ladder = Ladder::make(alloc, &tree)?;
+    Ok(sum_up(&tree, &ladder))
+}
+
 #[test]
 fn summary_of_seed_seven(rt: HostRuntime) -> Result<(), Fail> {
-    let net = Arc::new(rt.alloc(), make_network(rt.alloc(), 7, 3, 3)?)?;
-    let tree = build_tree(rt.alloc(), &rt, &net, 2, &OpenGate)?;
-    let ladder = Ladder::make(rt.alloc(), &tree)?;
-    assert!(&rt; tree.net().routers() == 3);
-    let summary = sum_up(&tree, &ladder);
+    let summary = made_summary(rt.alloc(), &rt, 7, 3, 3)?;
     let mut sink = MemorySink::make(rt.alloc(), 64, Vec::new(rt.alloc()))?;
     assert!(&rt; write_summary(&summary, &mut sink).is_ok());
     let text = b"made routers 3 links 3\nleast 355\nsum 1098\n";
