@@ -77,17 +77,18 @@ phase-moved aim now router v old small apart later most passed =
       come = record {
         size = length-set cursor router v ∙ old.come.size;
         fresh = other aim.t (λ e. apart (sym e)) ∙ old.come.fresh;
-        above = λ r below. omega (arith, (cursor-moved cursor router v r within later).0, old.come.above r below);
-        below = λ r below. elim (cases_eq r router) [
-          | inr ne ↦ omega (arith, other r ne, old.come.below r below)
+        above = λ r labelled.
+            omega (arith, (cursor-moved cursor router v r within later).0, old.come.above r labelled);
+        below = λ r labelled. elim (cases_eq r router) [
+          | inr ne ↦ omega (arith, other r ne, old.come.below r labelled)
           | inl is ↦ subst (λ (x : ℕ). get_or (set cursor router v) x 0 ≤ begin_of net (x + 1)) (sym is)
               (omega (arith, same, most))
         ];
-        blocked = λ r below at low high.
+        blocked = λ r labelled at low high.
             let arc : ℕ = (place_at net at).arc in
             blocked-moved aim now (set cursor router v) arc (stays (head_of net arc))
             (elim (cases_lt at (get_or cursor r 0)) [
-              | inl before ↦ old.come.blocked r below at low before
+              | inl before ↦ old.come.blocked r labelled at low before
               | inr behind ↦ elim (cases_eq r router) [
                 | inr ne ↦ absurd (omega (arith, other r ne, high, behind))
                 | inl is ↦

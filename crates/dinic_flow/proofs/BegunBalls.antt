@@ -1,8 +1,8 @@
 -- A ball begins with its centre, and two that begin about two routers are apart.
 use Rattle.std.proofs.Common.{◌≡◌, ◌≢◌, ℕ, ◌-◌, ◌<◌, Bool, List, length, get_or, set, replicate}
-use Rattle.std.proofs.Common.{get_or-set_same, get_or-set_other, sym, ◌∙◌, arith, inl, inr}
+use Rattle.std.proofs.Common.{get_or-set_same, get_or-set_other, sym, ap, ◌∙◌, arith, inl, inr}
 use Rattle.std.proofs.lemmas.Bool.{cases_eq, cases_lt}
-use Rattle.std.proofs.lemmas.List.{get_or_past, get_or-replicate, length-replicate}
+use Rattle.std.proofs.lemmas.List.{get_or_past, get_or-replicate, length-replicate, length-set}
 use Rattle.dinic_flow.specs.declared.search.Ball.{Ball}
 use Rattle.dinic_flow.specs.Balls.{Search, ball_of, AreApart, IsBall}
 use Rattle.dinic_flow.proofs.Walks.{walks-still}
@@ -12,7 +12,11 @@ pub record IsAlone (label : List ℕ) (centre : ℕ) : Type 0 where
   pub here : get_or label centre 0 ≡ 1
   pub only : (r : ℕ) → r ≢ centre → get_or label r 0 ≡ 0
 
--- Where all labels are taken away and one is given, only its router has one.
+-- Where all labels are taken away and one is given, there is room for as many as before.
+pub begun-long : (label : List ℕ) (size centre : ℕ) → label ≡ set (replicate size 0) centre 1 → length label ≡ size
+begun-long label size centre is = ap length is ∙ length-set (replicate size 0) centre 1 ∙ length-replicate size 0
+
+-- Only that router has one.
 pub alone-begun : (label : List ℕ) (size centre : ℕ) → label ≡ set (replicate size 0) centre 1 → centre < size →
     IsAlone label centre
 alone-begun label size centre is within =

@@ -11,9 +11,8 @@ use Rattle.residual_graph.specs.Arcs.{arc_count}
 use Rattle.residual_graph.specs.Places.{begin_of, place_at}
 use Rattle.residual_graph.specs.View.{ResidualView, IsSound}
 use Rattle.residual_graph.proofs.ByPlace.{arc-between, begin-zero, begin-next, begin-end}
-use Rattle.residual_graph.proofs.Listed.{head_below}
 use Rattle.dinic_flow.specs.Levels.{OpenArc, Walk, IsFartherThan, height, IsLevelled}
-use Rattle.dinic_flow.specs.Phases.{Moment, Aim, Rises, IsSpent, IsBlocked, IsPhase, Tally, Costs}
+use Rattle.dinic_flow.specs.Phases.{Moment, Aim, Rises, IsSpent, IsBlocked, IsPhase, AreBegun, Tally, Costs}
 use Rattle.dinic_flow.proofs.Relays.{height-label}
 
 -- The levels of a phase, in a residual graph.
@@ -71,40 +70,38 @@ closed-open x threshold below above = omega (arith, ints, below, above)
 -- From a spent router no walk to t rises by one level at each arc.
 stuck : (aim : Aim) (now : Moment) (phase : IsPhase aim now) → 0 < get_or aim.label aim.t 0 →
     (arcs u : ℕ) → Walk now.view aim.threshold arcs u aim.t →
-    get_or aim.label aim.t 0 ≡ height phase.levelled.mid aim.label u + arcs → u ≢ aim.t → u < now.view.net.routers →
+    get_or aim.label aim.t 0 ≡ height phase.levelled.mid aim.label u + arcs → u ≢ aim.t →
     IsSpent now.view.net now.cursor u → ⊥
-stuck aim now phase some zero u is steep apart small spent = apart is
-stuck aim now phase some (suc arcs) u (w, arc, rest) steep apart small spent =
+stuck aim now phase some zero u is steep apart spent = apart is
+stuck aim now phase some (suc arcs) u (w, arc, rest) steep apart spent =
     let view : ResidualView = now.view in
     let label : List ℕ = aim.label in
     let mid : ℕ = phase.levelled.mid in
     let above = climbs aim view phase.levelled some arcs w rest in
     let below = arc-rises aim view phase.levelled u w arc in
     let steep_on : get_or label aim.t 0 ≡ height mid label w + arcs = omega (arith, above, below, steep) in
-    let low =
-    height-label mid label u (labelled aim view phase.levelled some (suc arcs) u (w, arc, rest) steep) in
+    let here = labelled aim view phase.levelled some (suc arcs) u (w, arc, rest) steep in
+    let low = height-label mid label u here in
     let high = height-label mid label w (labelled aim view phase.levelled some arcs w rest steep_on) in
     let on : get_or label w 0 ≡ get_or label u 0 + 1 = omega (arith, low, high, steep, steep_on) in
     let leads : Rises view.net label arc.arc = rw (arc.tail, arc.head) on in
     let (at, from, to, is) = arc-between view.net phase.sound.limits arc.arc arc.within in
     let start : begin_of view.net u ≤ at = rw arc.tail at from in
     let passed : at < get_or now.cursor u 0 = omega (arith, rw arc.tail at to, spent) in
-    let was : IsBlocked aim now (place_at view.net at).arc = phase.come.blocked u small at start passed in
+    let was : IsBlocked aim now (place_at view.net at).arc = phase.come.blocked u here at start passed in
     let is_arc : (place_at view.net at).arc ≡ arc.arc = ap (λ (p : Place). p.arc) is in
     elim (subst (λ (x : ℕ). IsBlocked aim now x) is_arc was leads) [
       | inl closed ↦ closed-open _ aim.threshold closed arc.is_open
       | inr other ↦
           let next : (w ≢ aim.t) × IsSpent view.net now.cursor w = rw arc.head at other in
-          let inside : w < view.net.routers =
-          rw arc.head at (head_below view.net phase.sound.limits arc.arc arc.within) in
-          stuck aim now phase some arcs w rest steep_on next.0 inside next.1
+          stuck aim now phase some arcs w rest steep_on next.0 next.1
     ]
 
 -- Once s is spent, each walk from s to t has more arcs than there are levels above s.
 pub farther : (aim : Aim) (now : Moment) (s : ℕ) → IsPhase aim now →
-    get_or aim.label s 0 ≡ 1 → s ≢ aim.t → s < now.view.net.routers → IsSpent now.view.net now.cursor s →
+    get_or aim.label s 0 ≡ 1 → s ≢ aim.t → IsSpent now.view.net now.cursor s →
     IsFartherThan now.view aim.threshold s aim.t (get_or aim.label aim.t 0 - 1)
-farther aim now s phase start apart small spent arcs walk =
+farther aim now s phase start apart spent arcs walk =
     let label : List ℕ = aim.label in
     let some : 0 < get_or label aim.t 0 = omega (arith, phase.levelled.most s, start) in
     let low = height-label phase.levelled.mid label s (omega arith) in
@@ -114,63 +111,63 @@ farther aim now s phase start apart small spent arcs walk =
       | inr short ↦
           let steep : get_or label aim.t 0 ≡ height phase.levelled.mid label s + arcs =
           omega (arith, above, short, low) in
-          absurd (stuck aim now phase some arcs s walk steep apart small spent)
+          absurd (stuck aim now phase some arcs s walk steep apart spent)
     ]
 
 -- ---- where a phase begins, and what all of it costs
 
--- Cursors at each router's first place are a state of a phase.
+-- Cursors at the first place of each router with a label are a state of a phase.
 pub phase-begun : (aim : Aim) (now : Moment) → IsSound now.view →
-    HasLevels aim now.view → aim.t < now.view.net.routers →
-    length now.cursor ≡ now.view.net.routers →
-    ((r : ℕ) → r < now.view.net.routers → get_or now.cursor r 0 ≡ begin_of now.view.net r) → IsPhase aim now
-phase-begun aim now sound levelled small size begun = record {
+    HasLevels aim now.view → 0 < get_or aim.label aim.t 0 → length now.cursor ≡ now.view.net.routers →
+    AreBegun now.view.net aim.label now.cursor → IsPhase aim now
+phase-begun aim now sound levelled some size begun = record {
   sound = sound;
   levelled = levelled;
   come = record {
     size = size;
-    fresh = begun aim.t small;
-    above = λ r below. omega (arith, begun r below);
-    below = λ r below. omega (arith, begun r below, begin-next now.view.net r);
-    blocked = λ r below at low high. absurd (omega (arith, begun r below, high));
+    fresh = begun aim.t some;
+    above = λ r labelled. omega (arith, begun r labelled);
+    below = λ r labelled. omega (arith, begun r labelled, begin-next now.view.net r);
+    blocked = λ r labelled at low high. absurd (omega (arith, begun r labelled, high));
   };
 }
 
--- Numbers that step up to the next ones have a sum that is larger by the last at most.
+-- Numbers that each move by no more than the step between two others have a sum that moves by the last less the first.
 sums-step : (f : ℕ → ℕ) (old new : List ℕ) (from : ℕ) → length old ≡ length new →
-    ((i : ℕ) → i < length old → f (from + i) ≤ get_or old i 0) →
-    ((i : ℕ) → i < length old → get_or new i 0 ≤ f (from + i + 1)) →
+    ((i : ℕ) → i < length old → get_or new i 0 + f (from + i) ≤ get_or old i 0 + f (from + i + 1)) →
     sum new + f from ≤ sum old + f (from + length old)
-sums-step f [] [] from long low high = let same : from + 0 ≡ from = omega arith in rw same (omega arith)
-sums-step f [] (y ∷ ys) from long low high = absurd (omega arith)
-sums-step f (x ∷ xs) [] from long low high = absurd (omega arith)
-sums-step f (x ∷ xs) (y ∷ ys) from long low high =
+sums-step f [] [] from long steps = let same : from + 0 ≡ from = omega arith in rw same (omega arith)
+sums-step f [] (y ∷ ys) from long steps = absurd (omega arith)
+sums-step f (x ∷ xs) [] from long steps = absurd (omega arith)
+sums-step f (x ∷ xs) (y ∷ ys) from long steps =
     let at : from + 0 ≡ from = omega arith in
-    let first : f from ≤ x = subst (λ (n : ℕ). f n ≤ x) at (low 0 (omega arith)) in
-    let at_next : from + 0 + 1 ≡ from + 1 = omega arith in
-    let last : y ≤ f (from + 1) = subst (λ (n : ℕ). y ≤ f n) at_next (high 0 (omega arith)) in
+    let first : y + f from ≤ x + f (from + 1) =
+    subst (λ (n : ℕ). y + f n ≤ x + f (n + 1)) at (steps 0 (omega arith)) in
     let rest = sums-step f xs ys (from + 1) (omega arith)
     (λ i within.
     let same : from + suc i ≡ from + 1 + i = omega arith in
-    subst (λ (n : ℕ). f n ≤ get_or xs i 0) same (low (suc i) (omega arith)))
-    (λ i within.
-    let same : from + suc i + 1 ≡ from + 1 + i + 1 = omega arith in
-    subst (λ (n : ℕ). get_or ys i 0 ≤ f n) same (high (suc i) (omega arith))) in
+    subst (λ (n : ℕ). get_or ys i 0 + f n ≤ get_or xs i 0 + f (n + 1)) same (steps (suc i) (omega arith))) in
     let end : from + 1 + length xs ≡ from + suc (length xs) = omega arith in
-    omega (arith, sum_by-cons (λ n. n) x xs, sum_by-cons (λ n. n) y ys, rw end at rest)
+    omega (arith, sum_by-cons (λ n. n) x xs, sum_by-cons (λ n. n) y ys, first, rw end at rest)
+
+-- The cursors of routers without a label stay, from one moment to another.
+abbrev pub OthersStay : Aim → List ℕ → List ℕ → Type 0
+OthersStay aim old new = (r : ℕ) → get_or aim.label r 0 ≡ 0 → get_or new r 0 ≡ get_or old r 0
 
 -- All cursors together move by the number of arcs at most.
 pub cursors-move : (aim : Aim) (now : Moment) (old : List ℕ) →
     IsPhase aim now → length old ≡ now.view.net.routers →
-    ((r : ℕ) → r < now.view.net.routers → get_or old r 0 ≡ begin_of now.view.net r) →
+    AreBegun now.view.net aim.label old → OthersStay aim old now.cursor →
     sum now.cursor ≤ sum old + arc_count now.view.net
-cursors-move aim now old phase size begun =
+cursors-move aim now old phase size begun stay =
     let net : Net = now.view.net in
+    let step : (r : ℕ) → get_or now.cursor r 0 + begin_of net r ≤ get_or old r 0 + begin_of net (r + 1) =
+    λ r. elim (cases_lt 0 (get_or aim.label r 0)) [
+      | inl some ↦ omega (arith, begun r some, phase.come.below r some)
+      | inr none ↦ omega (arith, stay r (omega arith), begin-next net r)
+    ] in
     let all = sums-step (begin_of net) old now.cursor 0 (omega (arith, size, phase.come.size))
-    (λ i within. let same : 0 + i ≡ i = omega arith in rw same (omega (arith, begun i (omega (arith, size, within)))))
-    (λ i within.
-    let same : 0 + i + 1 ≡ i + 1 = omega arith in
-    rw same (phase.come.below i (omega (arith, size, within)))) in
+    (λ i _. let same : 0 + i ≡ i = omega arith in rw same (step i)) in
     let end : 0 + length old ≡ net.routers = omega (arith, size) in
     omega (arith, rw end at all, begin-zero net, begin-end net phase.sound.limits)
 

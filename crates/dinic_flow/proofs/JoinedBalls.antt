@@ -5,7 +5,7 @@ use Rattle.std.proofs.lemmas.Bool.{cases_lt}
 use Rattle.dinic_flow.specs.Searching.{IsJoined}
 use Rattle.dinic_flow.specs.Balls.{Search, BallView, level_at, label_in, centre_of}
 use Rattle.dinic_flow.specs.Balls.{AreBalls, Meets, IsLetOut, IsNumbered}
-use Rattle.dinic_flow.proofs.Labels.{apart-turned}
+use Rattle.dinic_flow.proofs.Entering.{apart-turned}
 use Rattle.dinic_flow.proofs.Levelling.{IsWhole, IsOneNumbering, whole-most, at-rim, joined}
 use Rattle.dinic_flow.proofs.QueueFronts.{front-at, front-of, part-at, part-of}
 
@@ -122,7 +122,7 @@ pub joined-near : {search : Search} {near far : BallView} (bare final : List ℕ
     near.reached.known ≤ length near.reached.queue → far.stop ≤ length far.reached.queue →
     Meets search false near far.reached.label → IsLetOut near.reached.label bare (beyond_of near) →
     IsNumbered bare final far.reached.label (inner_of far) (total_of near far) →
-    length final ≡ search.view.net.routers →
+    search.view.net.routers ≤ length final →
     IsJoined search.view search.threshold (centre_of near) (centre_of far) final (near.radius + far.radius + 1)
 joined-near {search = search} {near = near} {far = far} bare final balls whole some near_room far_room meets out
     numbered size =
@@ -140,7 +140,7 @@ pub joined-far : {search : Search} {near far : BallView} (final : List ℕ) →
     AreBalls search near far → IsWhole near → far.front < far.stop → far.stop ≤ length far.reached.queue →
     Meets search true far near.reached.label →
     IsNumbered near.reached.label final far.reached.label (inner_of far) (total_of near far) →
-    length final ≡ search.view.net.routers →
+    search.view.net.routers ≤ length final →
     IsJoined search.view search.threshold (centre_of near) (centre_of far) final (near.radius + far.radius + 1)
 joined-far {search = search} {near = near} {far = far} final balls whole some far_room meets numbered size =
     let v : ℕ = meets.from in

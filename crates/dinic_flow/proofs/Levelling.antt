@@ -83,22 +83,22 @@ pub record IsOneNumbering (near far : BallView) (final : List ℕ) : Type 0 wher
       (0 < label_in far r → far.radius + 1 < label_in far r) → get_or final r 0 ≡ 0
 
 -- A router of the ball about s.
-record IsNear (near : BallView) (final : List ℕ) (r : ℕ) : Type 0 where
-  some : 0 < label_in near r
-  most : label_in near r ≤ near.radius + 1
-  is : get_or final r 0 ≡ label_in near r
+pub record IsNear (near : BallView) (final : List ℕ) (r : ℕ) : Type 0 where
+  pub some : 0 < label_in near r
+  pub most : label_in near r ≤ near.radius + 1
+  pub is : get_or final r 0 ≡ label_in near r
 
 -- A router of the ball about t.
-record IsFar (near far : BallView) (final : List ℕ) (r : ℕ) : Type 0 where
-  some : 0 < label_in far r
-  most : label_in far r ≤ far.radius + 1
-  is : get_or final r 0 + label_in far r ≡ near.radius + far.radius + 3
+pub record IsFar (near far : BallView) (final : List ℕ) (r : ℕ) : Type 0 where
+  pub some : 0 < label_in far r
+  pub most : label_in far r ≤ far.radius + 1
+  pub is : get_or final r 0 + label_in far r ≡ near.radius + far.radius + 3
 
 -- A router of neither.
-record IsBare (near far : BallView) (final : List ℕ) (r : ℕ) : Type 0 where
-  beyond : 0 < label_in near r → near.radius + 1 < label_in near r
-  outside : 0 < label_in far r → far.radius + 1 < label_in far r
-  is : get_or final r 0 ≡ 0
+pub record IsBare (near far : BallView) (final : List ℕ) (r : ℕ) : Type 0 where
+  pub beyond : 0 < label_in near r → near.radius + 1 < label_in near r
+  pub outside : 0 < label_in far r → far.radius + 1 < label_in far r
+  pub is : get_or final r 0 ≡ 0
 
 -- The height of a router with a label is its label.
 height-some : (mid : ℕ) (label : List ℕ) (r : ℕ) → 0 < get_or label r 0 → height mid label r ≡ get_or label r 0
@@ -111,7 +111,7 @@ height-none mid label r none = rw (eq-eqb (get_or label r 0) 0 none) refl
 module _ (search : Search) (near far : BallView) (final : List ℕ) (balls : AreBalls search near far)
     (one : IsOneNumbering near far final) where
   -- Each router is of one of the three kinds.
-  kind-of : (r : ℕ) → IsNear near final r ⊎ (IsFar near far final r ⊎ IsBare near far final r)
+  pub kind-of : (r : ℕ) → IsNear near final r ⊎ (IsFar near far final r ⊎ IsBare near far final r)
   kind-of r = elim (cases_lt 0 (label_in near r)) [
     | inl some ↦ elim (cases_lt (near.radius + 1) (label_in near r)) [
       | inl beyond ↦
@@ -321,7 +321,7 @@ module _ (search : Search) (near far : BallView) (final : List ℕ) (balls : Are
       omega (arith, most, balls.near_ball.deep, balls.far_ball.deep, some_s, some_t)
 
   -- The numbering makes levels.
-  levels : length final ≡ search.view.net.routers → near.front < near.reached.known → far.front < far.reached.known →
+  levels : search.view.net.routers ≤ length final → near.front < near.reached.known → far.front < far.reached.known →
       IsLevelled search.view search.threshold (centre_of far) final
   levels size some_s some_t = record {
     mid = near.radius + 2;
@@ -338,7 +338,7 @@ module _ (search : Search) (near far : BallView) (final : List ℕ) (balls : Are
   -- Where an open arc leads from the rim of the one ball to that of the other, they are joined.
   pub joined : (u v : ℕ) → LeadsOn search false u v → label_in near u ≡ near.radius + 1 →
       label_in far v ≡ far.radius + 1 →
-      length final ≡ search.view.net.routers → near.front < near.reached.known → far.front < far.reached.known →
+      search.view.net.routers ≤ length final → near.front < near.reached.known → far.front < far.reached.known →
       IsJoined search.view search.threshold (centre_of near) (centre_of far) final (near.radius + far.radius + 1)
   joined u v arc level mark size some_s some_t =
       let to : WalksOn search false near.radius (centre_of near) u =

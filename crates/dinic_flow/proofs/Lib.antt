@@ -1,11 +1,13 @@
 pub mod Walks
 pub mod Counting
-pub mod Labels
+pub mod Bases
+pub mod Entering
 pub mod Rounds
 pub mod Spreading
 pub mod Levelling
 pub mod QueueFronts
 pub mod JoinedBalls
+pub mod BegunCursors
 pub mod PartedBalls
 pub mod BegunBalls
 pub mod WorkOfBalls

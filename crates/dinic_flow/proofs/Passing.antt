@@ -17,6 +17,7 @@ use Rattle.dinic_flow.proofs.Paying.{HasPaid, pays-passed, pays-last}
 pub record IsSender (aim : Aim) (start : Moment) (router : ℕ) : Type 0 where
   pub phase : IsPhase aim start
   pub small : router < start.view.net.routers
+  pub labelled : 0 < get_or aim.label router 0
   pub apart : router ≢ aim.t
 
 -- The sender has sent so much, has passed the places from its cursor up to one, and hasn't moved its cursor yet.
@@ -49,7 +50,7 @@ is_next aim start now router sent at passing high =
     let net = passing-net aim start now router sent at passing in
     let small : router < view.net.routers = rw net passing.sender.small in
     let from : begin_of view.net router ≤ get_or start.cursor router 0 =
-    rw net (passing.sender.phase.come.above router passing.sender.small) in
+    rw net (passing.sender.phase.come.above router passing.sender.labelled) in
     let to : at < begin_of view.net (router + 1) = rw net high in
     let most = begin-most view.net passing.phase.sound.limits (router + 1) (omega arith) in
     record {

@@ -10,7 +10,6 @@ use Rattle.residual_graph.specs.declared.place.Place.{Place}
 use Rattle.residual_graph.specs.Arcs.{tail_of, head_of, arc_count}
 use Rattle.residual_graph.specs.Places.{place_at}
 use Rattle.residual_graph.specs.View.{ResidualView, IsSound, left_on, pushed}
-use Rattle.residual_graph.proofs.Listed.{head_below}
 use Rattle.dinic_flow.specs.Levels.{IsOpen, height, IsLevelled}
 use Rattle.dinic_flow.specs.Sending.{only_at}
 use Rattle.dinic_flow.specs.Phases.{Moment, moment_of, Aim, Rises, IsSpent, IsBlocked}
@@ -166,11 +165,11 @@ phase-push aim now after arc amount push some sound old =
       come = record {
         size = rw net old.come.size;
         fresh = rw net old.come.fresh;
-        above = λ r small. rw net (old.come.above r (rw net at small));
-        below = λ r small. rw net (old.come.below r (rw net at small));
-        blocked = λ r small at low high.
+        above = λ r labelled. rw net (old.come.above r labelled);
+        below = λ r labelled. rw net (old.come.below r labelled);
+        blocked = λ r labelled at low high.
             let was : IsBlocked aim now (place_at before.net at).arc =
-            old.come.blocked r (rw net at small) at (rw net at low) high in
+            old.come.blocked r labelled at (rw net at low) high in
             subst (λ (n : Net). IsBlocked aim (moment_of after now.cursor) (place_at n at).arc) (sym net)
             (blocked-push aim now after arc amount (place_at before.net at).arc push was);
       };
@@ -278,9 +277,8 @@ blocked-later aim before after router amount arc sent phase within was leads =
       | inl closed ↦ inl (lt-le _ _ _ (sent.falls arc within led) closed)
       | inr spent ↦
           let head : ℕ = head_of now arc in
-          let small : head < now.routers = head_below now phase.sound.limits arc (rw net within) in
           let other : (head ≢ aim.t) × IsSpent now before.cursor head = rw net spent in
-          inr (other.0, omega (arith, other.1, sent.moves head, phase.come.below head small))
+          inr (other.0, omega (arith, other.1, sent.moves head, phase.come.below head (omega (arith, leads))))
     ]
   where
     lt-le : (x y z : ℤ) → x ≤ℤ y → y <ℤ z → x <ℤ z

@@ -7,7 +7,7 @@ use Rattle.residual_graph.specs.declared.place.Place.{Place}
 use Rattle.dinic_flow.specs.Levels.{IsOpen}
 use Rattle.dinic_flow.specs.Balls.{Search, Reached, LeadsOn, Grows}
 use Rattle.dinic_flow.proofs.Walks.{ArcAlong, leads-along, arc-along}
-use Rattle.dinic_flow.proofs.Labels.{IsNext}
+use Rattle.dinic_flow.proofs.Entering.{IsNext}
 
 -- The arc of a place leads on from its tail to its head, if it is open the way that is followed.
 pub place-leads : (search : Search) (back : Bool) (place : Place) →

@@ -102,6 +102,7 @@ pub record IsLabelled (search : Search) (back : Bool) (reached : Reached) : Type
 -- The routers that had labels are as they were, and those that are new have this one.
 pub record Grows (before after : Reached) (next : ℕ) : Type 0 where
   pub more : before.known ≤ after.known
+  pub size : length after.label ≡ length before.label
   pub same : (k : ℕ) → k < before.known → slice_index after.queue k ≡ slice_index before.queue k
   pub kept :
       (r : ℕ) → 0 < slice_index before.label r → slice_index after.label r ≡ slice_index before.label r
@@ -156,12 +157,14 @@ work_of net queue (suc k) = work_of net queue k + length (arcs_from net (slice_i
 
 -- The routers of the list have lost their labels, and the others have kept them.
 pub record IsLetOut (before after queue : List ℕ) : Type 0 where
+  pub size : length after ≡ length before
   pub cleared : (k : ℕ) → k < length queue → slice_index after (slice_index queue k) ≡ 0
   pub kept :
       (r : ℕ) → ((k : ℕ) → k < length queue → slice_index queue k ≢ r) → slice_index after r ≡ slice_index before r
 
 -- The routers of the list have the labels that their marks leave of the total, and the others kept theirs.
 pub record IsNumbered (before after marks queue : List ℕ) (total : ℕ) : Type 0 where
+  pub size : length after ≡ length before
   pub numbered :
       (k : ℕ) → k < length queue →
       slice_index after (slice_index queue k) ≡ total - slice_index marks (slice_index queue k)

@@ -33,7 +33,7 @@ height mid label router = if slice_index label router == 0 then mid else slice_i
 -- that leaves a router without a label rises.
 pub record IsLevelled (view : ResidualView) (threshold t : ℕ) (label : List ℕ) : Type 0 where
   pub mid : ℕ
-  pub size : length label ≡ view.net.routers
+  pub size : view.net.routers ≤ length label
   pub few : slice_index label t ≤ view.net.routers
   pub most : (r : ℕ) → slice_index label r ≤ slice_index label t
   pub only : (r : ℕ) → slice_index label r ≡ slice_index label t → r ≡ t

@@ -1,3 +1,4 @@
+pub mod Labels
 pub mod Levels
 pub mod Balls
 pub mod Searching

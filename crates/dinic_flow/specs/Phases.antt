@@ -16,6 +16,16 @@ Rises net label arc = slice_index label (head_of net arc) ≡ slice_index label 
 abbrev pub IsSpent : Net → List ℕ → ℕ → Type 0
 IsSpent net cursor r = slice_index cursor r ≡ begin_of net (r + 1)
 
+-- Each router with a label has its cursor at its first place.
+abbrev pub AreBegun : Net → List ℕ → List ℕ → Type 0
+AreBegun net label cursor = (r : ℕ) → 0 < slice_index label r → slice_index cursor r ≡ begin_of net r
+
+-- The cursors of the routers of the list are at their first places, and those that were there have stayed.
+pub record IsBegunOn (net : Net) (before after queue : List ℕ) : Type 0 where
+  pub begun :
+      (k : ℕ) → k < length queue → slice_index after (slice_index queue k) ≡ begin_of net (slice_index queue k)
+  pub kept : (r : ℕ) → slice_index before r ≡ begin_of net r → slice_index after r ≡ begin_of net r
+
 -- A moment of a phase: the residual graph, and the place at which each router's cursor stands.
 pub record Moment : Type 0 where
   pub view : ResidualView
@@ -47,14 +57,15 @@ IsBlocked aim now arc =
 abbrev pub AreBlocked : Aim → Moment → ℕ → ℕ → Type 0
 AreBlocked aim now from to = (at : ℕ) → from ≤ at → at < to → IsBlocked aim now (place_at now.view.net at).arc
 
--- Each router's cursor is among its places, that of t at the first one, and all before a cursor are blocked.
+-- The cursor of each router with a label is among the router's places, that of t at the first one, and all before
+-- it are blocked. Other routers' cursors may be anywhere.
 pub record HasCome (aim : Aim) (now : Moment) : Type 0 where
   pub size : length now.cursor ≡ now.view.net.routers
   pub fresh : slice_index now.cursor aim.t ≡ begin_of now.view.net aim.t
-  pub above : (r : ℕ) → r < now.view.net.routers → begin_of now.view.net r ≤ slice_index now.cursor r
-  pub below : (r : ℕ) → r < now.view.net.routers → slice_index now.cursor r ≤ begin_of now.view.net (r + 1)
+  pub above : (r : ℕ) → 0 < slice_index aim.label r → begin_of now.view.net r ≤ slice_index now.cursor r
+  pub below : (r : ℕ) → 0 < slice_index aim.label r → slice_index now.cursor r ≤ begin_of now.view.net (r + 1)
   pub blocked :
-      (r : ℕ) → r < now.view.net.routers → AreBlocked aim now (begin_of now.view.net r) (slice_index now.cursor r)
+      (r : ℕ) → 0 < slice_index aim.label r → AreBlocked aim now (begin_of now.view.net r) (slice_index now.cursor r)
 
 -- A state of a phase: a flow within the capacities, levels that rise to t, and cursors.
 pub record IsPhase (aim : Aim) (now : Moment) : Type 0 where

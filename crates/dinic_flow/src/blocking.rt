@@ -6,6 +6,7 @@ ghost use Rattle.residual_graph.specs.View.{IsSound, left_on, pushed};
 ghost use Rattle.dinic_flow.specs.Phases.{Costs, IsBlocked, IsPhase, IsSpent, Sends};
 ghost use Rattle.dinic_flow.specs.Phases.{aim_of, moment_of, tally_of};
 
+use crate::labels::Labels;
 use cut_model::Steps;
 use residual_graph::Residual;
 use std::sync::ledger::Ledger;
@@ -34,7 +35,7 @@ fn send_on<L: Ledger>(
     t: u32,
     limit: u64,
     threshold: u64,
-    label: &[u32],
+    label: &Labels,
     cursor: &mut [u32],
     steps: &mut Steps<L>,
 ) -> u64
@@ -70,7 +71,7 @@ fn send_over<L: Ledger>(
     t: u32,
     limit: u64,
     threshold: u64,
-    label: &[u32],
+    label: &Labels,
     cursor: &mut [u32],
     steps: &mut Steps<L>,
 ) -> u64
@@ -97,7 +98,7 @@ fn send_over<L: Ledger>(
         (tally_of cursor.old (steps.old + 2)) (tally_of cursor.new steps.new) }
 {
     let place = graph.place(at);
-    if label[place.head as usize] != next {
+    if label.get(place.head) != next {
         return 0;
     }
     if cursor[place.head as usize] == graph.begin(place.head + 1) {
@@ -122,7 +123,7 @@ pub fn send<L: Ledger>(
     t: u32,
     limit: u64,
     threshold: u64,
-    label: &[u32],
+    label: &Labels,
     cursor: &mut [u32],
     steps: &mut Steps<L>,
 ) -> u64
@@ -141,7 +142,7 @@ pub fn send<L: Ledger>(
     ensures cost { Costs (slice_index label.now t - slice_index label.now router)
         (tally_of cursor.old steps.old) (tally_of cursor.new steps.new) }
 {
-    let next = label[router as usize] + 1;
+    let next = label.get(router) + 1;
     let end = graph.begin(router + 1);
     let mut sent = 0u64;
     for at in cursor[router as usize]..end {

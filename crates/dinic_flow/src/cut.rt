@@ -6,6 +6,7 @@ ghost use Rattle.cut_model.specs.Flow.{IsFlow};
 ghost use Rattle.residual_graph.specs.View.{IsSound};
 
 use crate::flow::{Flow, max_flow};
+use crate::labels::Labels;
 use cut_model::{Side, Steps};
 use residual_graph::Residual;
 use std::sync::ledger::Ledger;
@@ -36,7 +37,8 @@ fn coarse_flow<L: Ledger>(
     s: u32,
     t: u32,
     threshold: u64,
-    label: &mut [u32],
+    label: &mut Labels,
+    marks: &mut Labels,
     cursor: &mut [u32],
     ahead: &mut [u32],
     behind: &mut [u32],
@@ -46,7 +48,8 @@ fn coarse_flow<L: Ledger>(
     requires flow { IsFlow graph.old.net s t graph.old.flow 0 }
     requires s { s < graph.old.net.routers }
     requires t { t < graph.old.net.routers }
-    requires label { length label.old ≡ graph.old.net.routers }
+    requires label { graph.old.net.routers ≤ length label.old }
+    requires marks { graph.old.net.routers ≤ length marks.old }
     requires cursor { length cursor.old ≡ graph.old.net.routers }
     requires ahead { length ahead.old ≡ graph.old.net.routers }
     requires behind { length behind.old ≡ graph.old.net.routers }
@@ -54,12 +57,14 @@ fn coarse_flow<L: Ledger>(
     ensures sound { IsSound graph.new }
     ensures flow { IsFlow graph.new.net s t graph.new.flow result.value }
     ensures phases { result.phases < graph.old.net.routers }
+    ensures label { length label.new ≡ length label.old }
+    ensures marks { length marks.new ≡ length marks.old }
     ensures steps { steps.new ≤ steps.old
         + 3 * length graph.old.net.links * graph.old.net.routers * graph.old.net.routers }
 {
     if threshold > 1 {
         max_flow(
-            graph, s, t, threshold, 0, label, cursor, ahead, behind, steps,
+            graph, s, t, threshold, 0, label, marks, cursor, ahead, behind, steps,
         )
     } else {
         Flow {
@@ -72,13 +77,14 @@ fn coarse_flow<L: Ledger>(
 
 /// A least cut of `s` from `t` in a graph without a flow, whose least side goes into `side`. Flow
 /// is first sent over the arcs that have at least `threshold` left, and then over all that have any.
-/// The four lists have room for all routers; what they hold before and afterwards means nothing.
+/// The labels and lists have room for all routers; what they hold before and afterwards means nothing.
 pub fn least_side<L: Ledger>(
     graph: &mut Residual,
     s: u32,
     t: u32,
     threshold: u64,
-    label: &mut [u32],
+    label: &mut Labels,
+    marks: &mut Labels,
     cursor: &mut [u32],
     ahead: &mut [u32],
     behind: &mut [u32],
@@ -91,6 +97,7 @@ pub fn least_side<L: Ledger>(
     requires s { s < graph.old.net.routers }
     requires t { t < graph.old.net.routers }
     requires label { graph.old.net.routers ≤ length label.old }
+    requires marks { graph.old.net.routers ≤ length marks.old }
     requires cursor { graph.old.net.routers ≤ length cursor.old }
     requires ahead { graph.old.net.routers ≤ length ahead.old }
     requires behind { graph.old.net.routers ≤ length behind.old }
@@ -100,15 +107,18 @@ pub fn least_side<L: Ledger>(
     ensures least { IsLeastSide graph.new.net s t (set_of side.new) result.value }
     ensures flow { IsFlow graph.new.net s t graph.new.flow result.value }
     ensures size { length side.new ≡ length side.old }
+    ensures label { length label.new ≡ length label.old }
+    ensures marks { length marks.new ≡ length marks.old }
     ensures steps { steps.new ≤ steps.old
         + 6 * length graph.old.net.links * graph.old.net.routers * graph.old.net.routers }
 {
     let routers = side.size() as usize;
-    let label = &mut label[..routers];
     let cursor = &mut cursor[..routers];
     let ahead = &mut ahead[..routers];
     let behind = &mut behind[..routers];
-    let coarse = coarse_flow(graph, s, t, threshold, label, cursor, ahead, behind, steps);
+    let coarse = coarse_flow(
+        graph, s, t, threshold, label, marks, cursor, ahead, behind, steps,
+    );
     let fine = max_flow(
         graph,
         s,
@@ -116,6 +126,7 @@ pub fn least_side<L: Ledger>(
         1,
         coarse.value,
         label,
+        marks,
         cursor,
         ahead,
         behind,

@@ -7,6 +7,7 @@ ghost use Rattle.cut_model.specs.Flow.{IsFlow};
 ghost use Rattle.dinic_flow.specs.Room.{Fits};
 
 use crate::cut::least_side;
+use crate::labels::Labels;
 use cut_model::{Network, NoMemory, Side, Steps};
 use residual_graph::Residual;
 use std::alloc::Global;
@@ -29,7 +30,8 @@ pub struct FlowDesk {
     routers: u32,
     links: u32,
     graph: Residual,
-    label: Vec<u32>,
+    label: Labels,
+    marks: Labels,
     cursor: Vec<u32>,
     ahead: Vec<u32>,
     behind: Vec<u32>,
@@ -52,7 +54,7 @@ impl Model for FlowDesk {
     ghost use Rattle.dinic_flow.specs.Desk.{IsEquipped};
 
     ghost invariant = { λ d. IsEquipped d.routers d.links d.graph
-        d.label.items d.cursor.items d.ahead.items d.behind.items };
+        d.label d.marks d.cursor.items d.ahead.items d.behind.items };
 }
 
 impl FlowDesk {
@@ -75,7 +77,8 @@ impl FlowDesk {
             routers,
             links,
             graph: Residual::with_room(alloc, routers, links)?,
-            label: vec![in alloc; 0; room]?,
+            label: Labels::with_room(alloc, room)?,
+            marks: Labels::with_room(alloc, room)?,
             cursor: vec![in alloc; 0; room]?,
             ahead: vec![in alloc; 0; room]?,
             behind: vec![in alloc; 0; room]?,
@@ -158,6 +161,7 @@ impl FlowDesk {
             t,
             threshold,
             &mut self.label,
+            &mut self.marks,
             &mut self.cursor,
             &mut self.ahead,
             &mut self.behind,
@@ -173,7 +177,7 @@ impl FlowDesk {
     /// holds a greatest flow from `s` to `t` (Dinic, 1970). It never fails for want of memory.
     ///
     /// `steps` counts each look at what is left on an arc, and each push: at most 6mn² of them with n
-    /// routers and m links. What else is done, as to load the network and to clear lists, isn't counted.
+    /// routers and m links. What else is done, as to load the network and to set cursors, isn't counted.
     ///
     /// `desk.least_cut(&net, 0, 2, &mut side, &mut steps)` is 2, `side` then holds router 0 alone, and
     /// the flow on each of the two links is 2.

@@ -4,23 +4,26 @@ ghost use Rattle.cut_model.specs.Flow.{IsFlow};
 ghost use Rattle.residual_graph.specs.Arcs.{arc_count};
 ghost use Rattle.residual_graph.specs.View.{IsSound};
 ghost use Rattle.dinic_flow.specs.Levels.{IsFartherThan, IsLevelled};
+ghost use Rattle.dinic_flow.specs.Phases.{AreBegun};
 ghost use Rattle.dinic_flow.specs.Searching.{IsApart};
 
 use crate::blocking::send;
+use crate::labels::Labels;
 use crate::search::{Found, search};
 use cut_model::Steps;
 use residual_graph::Residual;
 use std::sync::ledger::Ledger;
 
 /// Makes a flow of `value` from `s` to `t` grow over the levels, until each walk of open arcs from
-/// `s` to `t` is longer than those along the levels. The value of the flow afterwards.
+/// `s` to `t` is longer than those along the levels. The value of the flow afterwards. Routers without
+/// a level are never looked at, so their cursors may stand anywhere.
 pub fn phase<L: Ledger>(
     graph: &mut Residual,
     s: u32,
     t: u32,
     threshold: u64,
     value: u64,
-    label: &[u32],
+    label: &Labels,
     cursor: &mut [u32],
     steps: &mut Steps<L>,
 ) -> u64
@@ -32,6 +35,7 @@ pub fn phase<L: Ledger>(
     requires t { t < graph.old.net.routers }
     requires threshold { 0 < threshold }
     requires cursor { length cursor.old ≡ graph.old.net.routers }
+    requires begun { AreBegun graph.old.net label.now cursor.old }
     ensures same { graph.new ≡ record graph.old { flow = graph.new.flow } }
     ensures sound { IsSound graph.new }
     ensures flow { IsFlow graph.new.net s t graph.new.flow result }
@@ -39,7 +43,6 @@ pub fn phase<L: Ledger>(
     ensures steps { steps.new
         ≤ steps.old + 2 * ((slice_index label.now t - 1) * (arc_count graph.old.net + 1)) }
 {
-    graph.copy_begins(cursor);
     value + send(graph, s, t, u64::MAX, threshold, label, cursor, steps)
 }
 
@@ -61,7 +64,8 @@ pub fn max_flow<L: Ledger>(
     t: u32,
     threshold: u64,
     value: u64,
-    label: &mut [u32],
+    label: &mut Labels,
+    marks: &mut Labels,
     cursor: &mut [u32],
     ahead: &mut [u32],
     behind: &mut [u32],
@@ -72,7 +76,8 @@ pub fn max_flow<L: Ledger>(
     requires s { s < graph.old.net.routers }
     requires t { t < graph.old.net.routers }
     requires threshold { 0 < threshold }
-    requires label { length label.old ≡ graph.old.net.routers }
+    requires label { graph.old.net.routers ≤ length label.old }
+    requires marks { graph.old.net.routers ≤ length marks.old }
     requires cursor { length cursor.old ≡ graph.old.net.routers }
     requires ahead { length ahead.old ≡ graph.old.net.routers }
     requires behind { length behind.old ≡ graph.old.net.routers }
@@ -82,13 +87,17 @@ pub fn max_flow<L: Ledger>(
     ensures phases { result.phases < graph.old.net.routers }
     ensures reached { result.reached ≤ graph.old.net.routers }
     ensures apart { IsApart graph.new threshold s t (take result.reached ahead.new) }
+    ensures label { length label.new ≡ length label.old }
+    ensures marks { length marks.new ≡ length marks.old }
     ensures steps { steps.new ≤ steps.old
         + 3 * length graph.old.net.links * graph.old.net.routers * graph.old.net.routers }
 {
     let mut value = value;
     let mut phases = 0u32;
     loop {
-        match search(graph, s, t, threshold, label, cursor, ahead, behind, steps) {
+        match search(
+            graph, s, t, threshold, label, marks, cursor, ahead, behind, steps,
+        ) {
             Found::Joined(_) => {
                 value = phase(graph, s, t, threshold, value, label, cursor, steps);
                 phases += 1;

@@ -8,6 +8,7 @@ mod blocking;
 mod cut;
 mod desk;
 mod flow;
+mod labels;
 mod search;
 #[cfg(test)]
 mod tests;

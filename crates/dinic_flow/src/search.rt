@@ -10,8 +10,11 @@ ghost use Rattle.dinic_flow.specs.Levels.{IsOpen};
 ghost use Rattle.dinic_flow.specs.Balls.{search_of, reached_of, ball_of, round_of, grown_of};
 ghost use Rattle.dinic_flow.specs.Balls.{IsLabelled, Grows, LeadsOn, AreApart, Meets};
 ghost use Rattle.dinic_flow.specs.Balls.{IsBall, Crosses, work_of, IsLetOut, IsNumbered};
+ghost use Rattle.dinic_flow.specs.Phases.{IsBegunOn};
 ghost use Rattle.dinic_flow.specs.Searching.{IsFound};
+ghost use Rattle.dinic_flow.specs.declared.labels.TheConstants.{MOST_LABEL};
 
+use crate::labels::Labels;
 use cut_model::Steps;
 use residual_graph::{Place, Residual};
 use std::sync::ledger::Ledger;
@@ -45,15 +48,15 @@ struct Round {
 }
 
 /// Begins a ball: its centre alone has a label, which is 1.
-fn begin(centre: u32, label: &mut [u32], queue: &mut [u32]) -> Ball
+fn begin(centre: u32, label: &mut Labels, queue: &mut [u32]) -> Ball
     requires label { centre < length label.old }
     requires queue { 0 < length queue.old }
     ensures label { label.new ≡ slice_set (replicate (length label.old) 0) centre 1 }
     ensures queue { queue.new ≡ slice_set queue.old 0 centre }
     ensures ball { result ≡ record { front = 0; known = 1; radius = 0 } }
 {
-    label.fill(NO_LABEL);
-    label[centre as usize] = 1;
+    label.clear();
+    label.set(centre, 1);
     queue[0] = centre;
     Ball {
         front: 0,
@@ -80,8 +83,8 @@ fn reach<L: Ledger>(
     back: bool,
     next: u32,
     threshold: u64,
-    label: &mut [u32],
-    other: &[u32],
+    label: &mut Labels,
+    other: &Labels,
     queue: &mut [u32],
     known: usize,
     steps: &mut Steps<L>,
@@ -94,6 +97,7 @@ fn reach<L: Ledger>(
     requires labelled { IsLabelled (search_of graph.now threshold) back
         (reached_of label.old queue.old known) }
     requires level { slice_index label.old (tail_of graph.now.net place.arc) + 1 ≡ next }
+    requires low { next ≤ MOST_LABEL }
     requires tail { 0 < slice_index label.old (tail_of graph.now.net place.arc) }
     requires apart { AreApart label.old other.now }
     ensures labelled { IsLabelled (search_of graph.now threshold) back
@@ -107,22 +111,22 @@ fn reach<L: Ledger>(
         Crosses (search_of graph.now threshold) back other.now (tail_of graph.now.net place.arc) }
     ensures steps { steps.new ≤ steps.old + 1 }
 {
-    let head = place.head as usize;
-    if is_new(label[head], other[head]) {
+    if is_new(label.get(place.head), other.get(place.head)) {
         if graph.left_along(place.arc, back, steps) < threshold {
             return Round {
                 known,
                 joined: false,
             };
         }
-        label[head] = next;
+        label.set(place.head, next);
         queue[known] = place.head;
         return Round {
             known: known + 1,
             joined: false,
         };
     }
-    let joined = label[head] == NO_LABEL && graph.left_along(place.arc, back, steps) >= threshold;
+    let joined = label.get(place.head) == NO_LABEL
+        && graph.left_along(place.arc, back, steps) >= threshold;
     Round { known, joined }
 }
 
@@ -134,8 +138,8 @@ fn look_around<L: Ledger>(
     back: bool,
     next: u32,
     threshold: u64,
-    label: &mut [u32],
-    other: &[u32],
+    label: &mut Labels,
+    other: &Labels,
     queue: &mut [u32],
     known: usize,
     steps: &mut Steps<L>,
@@ -148,6 +152,7 @@ fn look_around<L: Ledger>(
     requires labelled { IsLabelled (search_of graph.now threshold) back
         (reached_of label.old queue.old known) }
     requires level { slice_index label.old router + 1 ≡ next }
+    requires low { next ≤ MOST_LABEL }
     requires tail { 0 < slice_index label.old router }
     requires apart { AreApart label.old other.now }
     ensures labelled { IsLabelled (search_of graph.now threshold) back
@@ -184,8 +189,8 @@ fn spread<L: Ledger>(
     back: bool,
     threshold: u64,
     ball: Ball,
-    label: &mut [u32],
-    other: &[u32],
+    label: &mut Labels,
+    other: &Labels,
     queue: &mut [u32],
     steps: &mut Steps<L>,
 ) -> Round
@@ -198,6 +203,7 @@ fn spread<L: Ledger>(
     requires apart { AreApart label.old other.now }
     ensures more { ball.known ≤ result.known }
     ensures few { result.known ≤ graph.now.net.routers }
+    ensures label { length label.new ≡ length label.old }
     ensures centre { slice_index queue.new 0 ≡ slice_index queue.old 0 }
     ensures apart { AreApart label.new other.now }
     ensures grown { IsFalse result.joined →
@@ -265,24 +271,36 @@ fn grows_near(near: Ball, far: Ball) -> bool
 }
 
 /// Takes the labels of these routers away.
-fn unlabel(label: &mut [u32], queue: &[u32])
+fn unlabel(label: &mut Labels, queue: &[u32])
     requires { All (λ r. r < length label.old) queue.now }
     ensures { IsLetOut label.old label.new queue.now }
 {
     for router in queue {
-        label[*router as usize] = NO_LABEL;
+        label.set(*router, NO_LABEL);
     }
 }
 
 /// Gives each of these routers the label that its mark leaves of a total.
-fn number(label: &mut [u32], marks: &[u32], queue: &[u32], total: u32)
+fn number(label: &mut Labels, marks: &Labels, queue: &[u32], total: u32)
     requires label { All (λ r. r < length label.old) queue.now }
     requires marks { All (λ r. r < length marks.now) queue.now }
     requires small { All (λ r. slice_index marks.now r ≤ total) queue.now }
+    requires low { total ≤ MOST_LABEL }
     ensures { IsNumbered label.old label.new marks.now queue.now total }
 {
     for router in queue {
-        label[*router as usize] = total - marks[*router as usize];
+        label.set(*router, total - marks.get(*router));
+    }
+}
+
+/// Puts the cursors of these routers at their first places.
+fn begin_cursors(graph: &Residual, cursor: &mut [u32], queue: &[u32])
+    requires cursor { graph.now.net.routers ≤ length cursor.old }
+    requires routers { All (λ r. r < graph.now.net.routers) queue.now }
+    ensures { IsBegunOn graph.now.net cursor.old cursor.new queue.now }
+{
+    for router in queue {
+        cursor[*router as usize] = graph.begin(*router);
     }
 }
 
@@ -291,16 +309,18 @@ fn number(label: &mut [u32], marks: &[u32], queue: &[u32], total: u32)
 /// open arc joins the balls, or that of s can't grow (Pohl, 1971). It looks at each arc at most
 /// once.
 ///
-/// Where they join, `label` has the levels. Where they don't, `ahead` begins with the routers that
-/// s reaches. `marks` has the labels of the ball about t, and `behind` its routers: what the two
-/// hold afterwards means nothing.
+/// Where they join, `label` has the levels, and the cursor of each router with a level is at its first
+/// place. Where they don't, `ahead` begins with the routers that s reaches. `marks` has the labels of
+/// the ball about t, and `behind` its routers: what the two hold afterwards means nothing. No list is
+/// written whole, so a search among few routers costs little in a large network.
 pub fn search<L: Ledger>(
     graph: &Residual,
     s: u32,
     t: u32,
     threshold: u64,
-    label: &mut [u32],
-    marks: &mut [u32],
+    label: &mut Labels,
+    marks: &mut Labels,
+    cursor: &mut [u32],
     ahead: &mut [u32],
     behind: &mut [u32],
     steps: &mut Steps<L>,
@@ -309,11 +329,14 @@ pub fn search<L: Ledger>(
     requires differ { s ≢ t }
     requires s { s < graph.now.net.routers }
     requires t { t < graph.now.net.routers }
-    requires label { length label.old ≡ graph.now.net.routers }
-    requires marks { length marks.old ≡ graph.now.net.routers }
+    requires label { graph.now.net.routers ≤ length label.old }
+    requires marks { graph.now.net.routers ≤ length marks.old }
+    requires cursor { length cursor.old ≡ graph.now.net.routers }
     requires ahead { length ahead.old ≡ graph.now.net.routers }
     requires behind { length behind.old ≡ graph.now.net.routers }
-    ensures found { IsFound graph.now threshold s t label.new ahead.new result }
+    ensures found { IsFound graph.now threshold s t label.new cursor.new ahead.new result }
+    ensures label { length label.new ≡ length label.old }
+    ensures marks { length marks.new ≡ length marks.old }
     ensures steps { steps.new ≤ steps.old + arc_count graph.now.net }
 {
     let mut near = begin(s, label, ahead);
@@ -325,6 +348,8 @@ pub fn search<L: Ledger>(
             if round.joined {
                 unlabel(label, &ahead[near.known..round.known]);
                 number(label, marks, &behind[..far.known], distance + 2);
+                begin_cursors(graph, cursor, &ahead[..near.known]);
+                begin_cursors(graph, cursor, &behind[..far.known]);
                 return Found::Joined(distance);
             }
             near = near.grown(round.known);
@@ -332,6 +357,8 @@ pub fn search<L: Ledger>(
             let round = spread(graph, true, threshold, far, marks, label, behind, steps);
             if round.joined {
                 number(label, marks, &behind[..far.known], distance + 2);
+                begin_cursors(graph, cursor, &ahead[..near.known]);
+                begin_cursors(graph, cursor, &behind[..far.known]);
                 return Found::Joined(distance);
             }
             far = far.grown(round.known);

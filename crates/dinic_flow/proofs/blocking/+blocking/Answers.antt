@@ -15,15 +15,16 @@ use Rattle.dinic_flow.proofs.Passing.{passing-net, is_next, passing-more, passin
 use Rattle.dinic_flow.proofs.Passing.{levels_above, passed-phase, passed-sends, passed-costs, last-costs}
 use Rattle.dinic_flow.proofs.blocking.+blocking.Goals as goal
 
-pub send_over-returns-then-label-place-clause-blocked : goal.send_over-returns-then-label-place-clause-blocked
-send_over-returns-then-label-place-clause-blocked g t c = λ _.
+pub send_over-returns-then-get-next-clause-blocked : goal.send_over-returns-then-get-next-clause-blocked
+send_over-returns-then-get-next-clause-blocked g t c = λ _.
     let aim : Aim = aim_of c.args.threshold c.args.t c.args.label.now in
     let now : Moment = moment_of c.args.graph.now c.args.cursor.now in
     let net : Net = now.view.net in
     let head : c.place-place.result.head ≡ head_of net (place_at net c.args.at).arc =
     ap (λ (p : Place). p.head) c.place-place.ensures.value ∙ place_at-head net c.args.at in
     blocked-level aim now (place_at net c.args.at).arc
-    (λ leads. c.if-label-place.true (ap (λ (r : ℕ). get_or aim.label r 0) head ∙ leads ∙ sym c.requires.next))
+    (λ leads. c.if-get-next.true
+    (c.get.ensures ∙ ap (λ (r : ℕ). get_or aim.label r 0) head ∙ leads ∙ sym c.requires.next))
 
 pub send_over-returns-then-cursor-place-clause-blocked : goal.send_over-returns-then-cursor-place-clause-blocked
 send_over-returns-then-cursor-place-clause-blocked g t c = λ _ leads.
@@ -45,7 +46,7 @@ send_over-returns-clause-phase g t c =
     let before : Moment = moment_of c.args.graph.now c.args.cursor.now in
     let between : Moment = moment_of c.send_on-sent.new.graph c.send_on-sent.new.cursor in
     let over = is_over aim before between c.push_some.new.graph c.place-place.result c.args.at c.send_on-sent.result
-    c.place-place.ensures.value c.place-place.ensures.arc (c.if-label-place.false ∙ c.requires.next)
+    c.place-place.ensures.value c.place-place.ensures.arc (sym c.get.ensures ∙ c.if-get-next.false ∙ c.requires.next)
     c.send_on-sent.ensures.sends c.send_on-sent.ensures.phase c.push_some.ensures.value in
     phase-push aim between c.push_some.new.graph (place_at before.view.net c.args.at).arc c.send_on-sent.result
     over.push (rw over.same (omega (arith, c.requires.next, c.requires.labelled))) c.push_some.ensures.sound
@@ -57,7 +58,7 @@ send_over-returns-clause-sends g t c =
     let before : Moment = moment_of c.args.graph.now c.args.cursor.now in
     let between : Moment = moment_of c.send_on-sent.new.graph c.send_on-sent.new.cursor in
     let over = is_over aim before between c.push_some.new.graph c.place-place.result c.args.at c.send_on-sent.result
-    c.place-place.ensures.value c.place-place.ensures.arc (c.if-label-place.false ∙ c.requires.next)
+    c.place-place.ensures.value c.place-place.ensures.arc (sym c.get.ensures ∙ c.if-get-next.false ∙ c.requires.next)
     c.send_on-sent.ensures.sends c.send_on-sent.ensures.phase c.push_some.ensures.value in
     over-sends aim before between c.push_some.new.graph (place_at before.view.net c.args.at).arc
     c.send_on-sent.result over
@@ -68,7 +69,7 @@ send_over-returns-clause-blocked g t c =
     let before : Moment = moment_of c.args.graph.now c.args.cursor.now in
     let between : Moment = moment_of c.send_on-sent.new.graph c.send_on-sent.new.cursor in
     let over = is_over aim before between c.push_some.new.graph c.place-place.result c.args.at c.send_on-sent.result
-    c.place-place.ensures.value c.place-place.ensures.arc (c.if-label-place.false ∙ c.requires.next)
+    c.place-place.ensures.value c.place-place.ensures.arc (sym c.get.ensures ∙ c.if-get-next.false ∙ c.requires.next)
     c.send_on-sent.ensures.sends c.send_on-sent.ensures.phase c.push_some.ensures.value in
     let net : Net = before.view.net in
     let arc : ℕ = (place_at net c.args.at).arc in
@@ -97,9 +98,9 @@ send-send_over-sent-requires g t c κs within =
     let view : ResidualView = now.view in
     let net = passing-net aim start now router c.loop-at.sent at was in
     let inside = next.inside in
-    let leaves : get_or aim.label router 0 + 1
-    ≡ get_or aim.label (tail_of view.net (place_at view.net at).arc) 0 + 1 =
-    ap (λ (r : ℕ). get_or aim.label r 0 + 1) (sym next.leaves.tail) in
+    let leaves : c.get-next.result + 1 ≡ get_or aim.label (tail_of view.net (place_at view.net at).arc) 0 + 1 =
+    ap (λ (level : ℕ). level + 1) c.get-next.ensures
+    ∙ ap (λ (r : ℕ). get_or aim.label r 0 + 1) (sym next.leaves.tail) in
     let less = below-top aim start.view router c.requires.phase.levelled c.requires.apart in
     let small : c.args.t < view.net.routers = rw net c.requires.t in
     search rules
@@ -149,7 +150,8 @@ send-returns-then-sent-limit-clause-cost g t c =
     c.send_over-sent.new.steps more
     (pays-place (levels_above aim (get_or aim.label router 0 + 1)) (get_or start.cursor router 0) at
     (tally_of start.cursor c.args.steps.now) (tally_of now.cursor c.loop-at.steps)
-    (tally_of after.cursor c.send_over-sent.new.steps) c.loop-at.invariant.paid c.send_over-sent.ensures.cost)
+    (tally_of after.cursor c.send_over-sent.new.steps) c.loop-at.invariant.paid
+    (rw c.get-next.ensures at c.send_over-sent.ensures.cost))
 
 pub send-loop-at-preserved : goal.send-loop-at-preserved
 send-loop-at-preserved g t c =
@@ -173,7 +175,8 @@ send-loop-at-preserved g t c =
       some = omega arith;
       paid = pays-place (levels_above aim (get_or aim.label router 0 + 1)) (get_or start.cursor router 0) at
           (tally_of start.cursor c.args.steps.now) (tally_of now.cursor c.loop-at.steps)
-          (tally_of after.cursor c.send_over-sent.new.steps) c.loop-at.invariant.paid c.send_over-sent.ensures.cost;
+          (tally_of after.cursor c.send_over-sent.new.steps) c.loop-at.invariant.paid
+          (rw c.get-next.ensures at c.send_over-sent.ensures.cost);
     }
 
 pub send-returns-clause-phase : goal.send-returns-clause-phase
@@ -185,7 +188,7 @@ send-returns-clause-phase g t c =
     let at : ℕ = c.loop-at.at in
     let was = c.loop-at.invariant.passing in
     let bound : get_or start.cursor router 0 ≤ c.begin-end.result =
-    omega (arith, c.requires.phase.come.below router c.requires.router, c.begin-end.ensures.value) in
+    omega (arith, c.requires.phase.come.below router c.requires.labelled, c.begin-end.ensures.value) in
     let last : at ≡ c.begin-end.result = omega (arith, c.loop-at.auto.at-end bound) in
     rw (← last) (passed-phase aim start now router c.loop-at.sent at was
     (omega (arith, c.begin-end.ensures.value)))
@@ -199,7 +202,7 @@ send-returns-clause-sends g t c =
     let at : ℕ = c.loop-at.at in
     let was = c.loop-at.invariant.passing in
     let bound : get_or start.cursor router 0 ≤ c.begin-end.result =
-    omega (arith, c.requires.phase.come.below router c.requires.router, c.begin-end.ensures.value) in
+    omega (arith, c.requires.phase.come.below router c.requires.labelled, c.begin-end.ensures.value) in
     let last : at ≡ c.begin-end.result = omega (arith, c.loop-at.auto.at-end bound) in
     rw (← last) (passed-sends aim start now router c.loop-at.sent at was)
 
@@ -212,7 +215,7 @@ send-returns-clause-cost g t c =
     let at : ℕ = c.loop-at.at in
     let was = c.loop-at.invariant.passing in
     let bound : get_or start.cursor router 0 ≤ c.begin-end.result =
-    omega (arith, c.requires.phase.come.below router c.requires.router, c.begin-end.ensures.value) in
+    omega (arith, c.requires.phase.come.below router c.requires.labelled, c.begin-end.ensures.value) in
     let last : at ≡ c.begin-end.result = omega (arith, c.loop-at.auto.at-end bound) in
     rw (← last) (passed-costs aim start now router c.loop-at.sent at c.args.steps.now c.loop-at.steps was
     c.loop-at.invariant.paid)

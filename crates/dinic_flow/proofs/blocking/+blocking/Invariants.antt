@@ -20,6 +20,6 @@ invariant-send-loop-at g l = record {
       l.router l.sent l.at;
   some : l.sent < l.limit;
   paid :
-      HasPaid (get_or l.label l.t 0 - l.next) (get_or l.fn.cursor l.router 0) l.at
+      HasPaid (get_or l.label l.t 0 - (get_or l.label l.router 0 + 1)) (get_or l.fn.cursor l.router 0) l.at
       (tally_of l.fn.cursor l.fn.steps) (tally_of l.cursor l.steps);
 }

@@ -1,5 +1,5 @@
 -- A phase sends less than the limit, so that s is spent in the end.
-use Rattle.std.proofs.Common.{◌≡◌, ◌+◌, ◌-◌, get_or, ap, arith}
+use Rattle.std.proofs.Common.{◌≡◌, ℕ, ◌+◌, ◌-◌, get_or, ap, arith}
 use Rattle.cut_model.specs.Net.{Net}
 use Rattle.cut_model.specs.Flow.{IsFlow}
 use Rattle.residual_graph.specs.Arcs.{arc_count}
@@ -13,8 +13,8 @@ use Rattle.dinic_flow.proofs.flow.phase.Goals as goal
 pub send-requires-clause-phase : goal.send-requires-clause-phase
 send-requires-clause-phase g c =
     phase-begun (aim_of c.args.threshold c.args.t c.args.label.now)
-    (moment_of c.args.graph.now c.copy_begins.new.cursor) c.requires.sound c.requires.levelled c.requires.t
-    (omega (arith, c.requires.cursor)) c.copy_begins.ensures.begins
+    (moment_of c.args.graph.now c.args.cursor.now) c.requires.sound c.requires.levelled
+    (omega (arith, c.requires.levelled.most c.args.s, c.requires.start)) c.requires.cursor c.requires.begun
 
 pub overflow_add-result : goal.overflow_add-result
 overflow_add-result g c =
@@ -41,7 +41,7 @@ returns-clause-farther g c =
     let small = flow-small before.net c.args.s c.args.t after.flow (c.args.value + c.send.result)
     c.requires.sound.limits c.requires.s more in
     farther (aim_of c.args.threshold c.args.t c.args.label.now) (moment_of after c.send.new.cursor) c.args.s
-    c.send.ensures.phase c.requires.start c.requires.flow.differ_ends (rw net c.requires.s)
+    c.send.ensures.phase c.requires.start c.requires.flow.differ_ends
     (c.send.ensures.spent (omega (arith, small)))
 
 pub returns-clause-steps : goal.returns-clause-steps
@@ -51,8 +51,10 @@ returns-clause-steps g c =
     let net : after.net ≡ before.net = ap (λ (v : ResidualView). v.net) c.send.ensures.sends.same in
     let moved =
     cursors-move (aim_of c.args.threshold c.args.t c.args.label.now) (moment_of after c.send.new.cursor)
-    c.copy_begins.new.cursor c.send.ensures.phase (omega (arith, c.requires.cursor, ap (λ (n : Net). n.routers) net))
-    (λ r small. rw net (c.copy_begins.ensures.begins r (rw net at small))) in
+    c.args.cursor.now c.send.ensures.phase (omega (arith, c.requires.cursor, ap (λ (n : Net). n.routers) net))
+    (rw net c.requires.begun)
+    (λ r none. c.send.ensures.sends.keeps r (omega (arith, none))
+    (λ is. absurd (omega (arith, none, c.requires.start, ap (λ (x : ℕ). get_or c.args.label.now x 0) is)))) in
     phase-pays (get_or c.args.label.now c.args.t 0 - 1) (arc_count before.net)
-    (tally_of c.copy_begins.new.cursor c.args.steps.now) (tally_of c.send.new.cursor c.send.new.steps)
+    (tally_of c.args.cursor.now c.args.steps.now) (tally_of c.send.new.cursor c.send.new.steps)
     (rw net at moved) (rw c.requires.start at c.send.ensures.cost)

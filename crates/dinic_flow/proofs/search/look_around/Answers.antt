@@ -2,7 +2,7 @@
 use Rattle.std.proofs.Common.{ℕ, subst, arith, rules}
 use Rattle.residual_graph.specs.Places.{no_place}
 use Rattle.dinic_flow.specs.Balls.{Crosses, search_of}
-use Rattle.dinic_flow.proofs.Labels.{grows-more}
+use Rattle.dinic_flow.proofs.Entering.{grows-more}
 use Rattle.dinic_flow.proofs.Rounds.{reached-more, reached-all}
 use Rattle.dinic_flow.proofs.search.look_around.Goals as goal
 

@@ -3,6 +3,7 @@ use Rattle.dinic_flow.proofs.search.number.Given as goal
 
 abbrev pub invariant-loop-router : goal.invariant-loop-router
 invariant-loop-router l = record {
+  size : length l.label ≡ length l.fn.label;
   numbered : (k : ℕ) → k < l.router-index →
       get_or l.label (get_or l.queue k 0) 0 ≡ l.total - get_or l.marks (get_or l.queue k 0) 0;
   kept : (r : ℕ) → ((k : ℕ) → k < length l.queue → get_or l.queue k 0 ≢ r) →

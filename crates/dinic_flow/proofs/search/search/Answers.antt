@@ -1,11 +1,13 @@
 -- A search begins, goes on and ends.
-use Rattle.std.proofs.Common.{◌≡◌, false, true, ◌∙◌, arith, rules}
+use Rattle.std.proofs.Common.{◌≡◌, ◌≤◌, false, true, length, ◌∙◌, arith, rules}
 use Rattle.dinic_flow.specs.Balls.{BallView, search_of, reached_of, ball_of, round_of, centre_of, AreBalls}
-use Rattle.dinic_flow.proofs.Labels.{apart-turned}
+use Rattle.dinic_flow.proofs.Entering.{apart-turned}
 use Rattle.dinic_flow.proofs.QueueFronts.{front-routers, part-routers}
-use Rattle.dinic_flow.proofs.JoinedBalls.{joined-near, joined-far}
+use Rattle.dinic_flow.proofs.Levelling.{IsOneNumbering}
+use Rattle.dinic_flow.proofs.JoinedBalls.{numbered-near, numbered-far, joined-near, joined-far}
+use Rattle.dinic_flow.proofs.BegunCursors.{begun-both}
 use Rattle.dinic_flow.proofs.PartedBalls.{parted}
-use Rattle.dinic_flow.proofs.BegunBalls.{alone-begun, first-put, begun-ball, begun-apart}
+use Rattle.dinic_flow.proofs.BegunBalls.{alone-begun, begun-long, first-put, begun-ball, begun-apart}
 use Rattle.dinic_flow.proofs.WorkOfBalls.{work-both}
 use Rattle.dinic_flow.proofs.search.search.Goals as goal
 
@@ -26,6 +28,8 @@ loop-near-init g c =
         apart = begun-apart c.begin-near.new.label c.begin-far.new.label c.args.s c.args.t near_alone far_alone
             c.requires.differ;
       };
+      label = begun-long c.begin-near.new.label _ c.args.s c.begin-near.ensures.label;
+      marks = begun-long c.begin-far.new.label _ c.args.t c.begin-far.ensures.label;
       near_few = omega (arith, c.requires.s);
       far_few = omega (arith, c.requires.t);
       start = start;
@@ -46,6 +50,39 @@ pub number-requires-clause-marks : goal.number-requires-clause-marks
 number-requires-clause-marks g c =
     front-routers c.loop-near.invariant.balls.far_ball.labelled c.loop-near.far.known _ (omega arith) (omega arith)
 
+pub begin_cursors-requires-clause-routers : goal.begin_cursors-requires-clause-routers
+begin_cursors-requires-clause-routers g c =
+    let stopped = c.spread-round.ensures.stopped c.if-round.true in
+    front-routers stopped.labelled c.loop-near.near.known _ (omega (arith, c.spread-round.ensures.more)) (omega arith)
+
+pub begin_cursors-requires-then-round-clause-routers : goal.begin_cursors-requires-then-round-clause-routers
+begin_cursors-requires-then-round-clause-routers g c =
+    front-routers c.loop-near.invariant.balls.far_ball.labelled c.loop-near.far.known _ (omega arith) (omega arith)
+
+pub number-requires-then-round-2-clause-label : goal.number-requires-then-round-2-clause-label
+number-requires-then-round-2-clause-label g c =
+    let round = c.spread-round-else-grows_near in
+    let stopped = round.ensures.stopped c.if-round-2.true in
+    front-routers stopped.labelled c.loop-near.far.known _ (omega (arith, round.ensures.more))
+    (omega (arith, c.requires.label, c.loop-near.invariant.label))
+
+pub number-requires-then-round-2-clause-marks : goal.number-requires-then-round-2-clause-marks
+number-requires-then-round-2-clause-marks g c =
+    let round = c.spread-round-else-grows_near in
+    let stopped = round.ensures.stopped c.if-round-2.true in
+    front-routers stopped.labelled c.loop-near.far.known _ (omega (arith, round.ensures.more))
+    (omega (arith, c.requires.marks, round.ensures.label, c.loop-near.invariant.marks))
+
+pub begin_cursors-requires-then-round-2-clause-routers : goal.begin_cursors-requires-then-round-2-clause-routers
+begin_cursors-requires-then-round-2-clause-routers g c =
+    front-routers c.loop-near.invariant.balls.near_ball.labelled c.loop-near.near.known _ (omega arith) (omega arith)
+
+pub begin_cursors-requires-then-round-2-2-clause-routers : goal.begin_cursors-requires-then-round-2-2-clause-routers
+begin_cursors-requires-then-round-2-2-clause-routers g c =
+    let round = c.spread-round-else-grows_near in
+    let stopped = round.ensures.stopped c.if-round-2.true in
+    front-routers stopped.labelled c.loop-near.far.known _ (omega (arith, round.ensures.more)) (omega arith)
+
 pub returns-then-round-clause-found : goal.returns-then-round-clause-found
 returns-then-round-clause-found g c =
     let old = c.loop-near.invariant in
@@ -60,12 +97,28 @@ returns-then-round-clause-found g c =
     } in
     let start : centre_of near ≡ c.args.s = round.ensures.centre ∙ old.start in
     let end : centre_of far ≡ c.args.t = old.end in
-    rw (start, end) at (joined-near c.unlabel.new.label c.number.new.label balls (omega arith)
-    (omega (arith, c.loop-near-test.true))
-    (omega (arith, round.ensures.few, round.auto.queue, c.loop-near.auto.ahead))
-    (omega (arith, old.far_few, c.loop-near.auto.behind))
-    (round.ensures.meets c.if-round.true) c.unlabel.ensures c.number.ensures
-    (omega (arith, c.number.auto.label, c.unlabel.auto.label, round.auto.label, c.loop-near.auto.label)))
+    let near_room : round.result.known ≤ length round.new.queue =
+    omega (arith, round.ensures.few, round.auto.queue, c.loop-near.auto.ahead) in
+    let far_room : c.loop-near.far.known ≤ length c.loop-near.behind =
+    omega (arith, old.far_few, c.loop-near.auto.behind) in
+    let one : IsOneNumbering near far c.number.new.label =
+    numbered-near c.unlabel.new.label c.number.new.label balls (omega arith) near_room far_room c.unlabel.ensures
+    c.number.ensures in (
+      rw (start, end) at (joined-near c.unlabel.new.label c.number.new.label balls (omega arith)
+          (omega (arith, c.loop-near-test.true)) near_room far_room (round.ensures.meets c.if-round.true)
+          c.unlabel.ensures c.number.ensures
+          (omega (
+            arith,
+            c.requires.label,
+            c.number.ensures.size,
+            c.unlabel.ensures.size,
+            round.ensures.label,
+            old.label,
+          ))),
+      begun-both c.args.graph.now.net c.loop-near.cursor c.begin_cursors.new.cursor
+          c.begin_cursors-then-round.new.cursor balls one (omega (arith, round.ensures.more, near_room)) far_room
+          c.begin_cursors.ensures c.begin_cursors-then-round.ensures,
+    )
 
 pub returns-then-round-clause-steps : goal.returns-then-round-clause-steps
 returns-then-round-clause-steps g c =
@@ -93,6 +146,8 @@ loop-near-preserved-then-grows_near g c =
         far_ball = old.balls.far_ball;
         apart = c.spread-round.ensures.apart;
       };
+      label = c.spread-round.ensures.label ∙ old.label;
+      marks = old.marks;
       near_few = c.spread-round.ensures.few;
       far_few = old.far_few;
       start = c.spread-round.ensures.centre ∙ old.start;
@@ -114,11 +169,19 @@ returns-then-round-2-clause-found g c =
     } in
     let start : centre_of near ≡ c.args.s = old.start in
     let end : centre_of far ≡ c.args.t = round.ensures.centre ∙ old.end in
-    rw (start, end) at (joined-far c.number-then-round-2.new.label balls (omega arith)
-    (c.if-grows_near.ensures (search rules))
-    (omega (arith, old.far_few, round.auto.queue, c.loop-near.auto.behind))
-    (round.ensures.meets c.if-round-2.true) c.number-then-round-2.ensures
-    (omega (arith, c.number-then-round-2.auto.label, c.loop-near.auto.label)))
+    let far_room : c.loop-near.far.known ≤ length round.new.queue =
+    omega (arith, old.far_few, round.auto.queue, c.loop-near.auto.behind) in
+    let one : IsOneNumbering near far c.number-then-round-2.new.label =
+    numbered-far c.number-then-round-2.new.label balls (omega arith) far_room c.number-then-round-2.ensures in (
+      rw (start, end) at (joined-far c.number-then-round-2.new.label balls (omega arith)
+          (c.if-grows_near.ensures (search rules)) far_room (round.ensures.meets c.if-round-2.true)
+          c.number-then-round-2.ensures
+          (omega (arith, c.requires.label, c.number-then-round-2.ensures.size, old.label))),
+      begun-both c.args.graph.now.net c.loop-near.cursor c.begin_cursors-then-round-2.new.cursor
+          c.begin_cursors-then-round-2-2.new.cursor balls one
+          (omega (arith, old.near_few, c.loop-near.auto.ahead)) far_room c.begin_cursors-then-round-2.ensures
+          c.begin_cursors-then-round-2-2.ensures,
+    )
 
 pub returns-then-round-2-clause-steps : goal.returns-then-round-2-clause-steps
 returns-then-round-2-clause-steps g c =
@@ -147,6 +210,8 @@ loop-near-preserved g c =
         far_ball = round.ensures.grown c.if-round-2.false;
         apart = apart-turned _ _ round.ensures.apart;
       };
+      label = old.label;
+      marks = round.ensures.label ∙ old.marks;
       near_few = old.near_few;
       far_few = round.ensures.few;
       start = old.start;

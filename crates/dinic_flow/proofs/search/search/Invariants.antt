@@ -5,6 +5,8 @@ use Rattle.dinic_flow.proofs.search.search.Given as goal
 abbrev pub invariant-loop-near : goal.invariant-loop-near
 invariant-loop-near g l = record {
   balls : AreBalls (search_of l.graph l.threshold) (ball_of l.label l.ahead l.near) (ball_of l.marks l.behind l.far);
+  label : length l.label ≡ length l.fn.label;
+  marks : length l.marks ≡ length l.fn.marks;
   near_few : l.near.known ≤ l.graph.net.routers;
   far_few : l.far.known ≤ l.graph.net.routers;
   start : get_or l.ahead 0 0 ≡ l.s;

@@ -1,9 +1,9 @@
 -- The front is within the queue, and what is followed stays closed.
 use Rattle.std.proofs.Common.{◌+◌, ◌<◌, get_or, arith, rules}
 use Rattle.dinic_flow.specs.Balls.{search_of, reached_of, work_of}
-use Rattle.dinic_flow.proofs.Labels.{grows-more}
+use Rattle.dinic_flow.proofs.Entering.{grows-more}
 use Rattle.dinic_flow.proofs.Spreading.{known-most, all_closed-kept, all_closed-more, rim-kept, closed-here}
-use Rattle.dinic_flow.proofs.Spreading.{stopped-ball, work-more, work-mono}
+use Rattle.dinic_flow.proofs.Spreading.{stopped-ball, grown-ball, work-more, work-mono}
 use Rattle.dinic_flow.proofs.search.spread.Goals as goal
 
 pub offset_bounds-queue-done : goal.offset_bounds-queue-done
@@ -90,3 +90,15 @@ returns-then-round-clause-few g c =
 pub returns-clause-few : goal.returns-clause-few
 returns-clause-few g c =
     known-most c.loop-done.invariant.labelled
+
+pub look_around-round-requires-clause-low : goal.look_around-round-requires-clause-low
+look_around-round-requires-clause-low g c =
+    let most = known-most c.requires.ball.labelled in
+    omega (arith, most, c.requires.limit, c.requires.some, c.requires.ball.deep)
+
+pub returns-clause-grown : goal.returns-clause-grown
+returns-clause-grown g c = λ _.
+    grown-ball (search_of c.args.graph.now c.args.threshold) c.args.back c.args.label.now c.args.queue.now
+    c.args.ball c.requires.ball (reached_of c.loop-done.label c.loop-done.queue c.loop-done.known)
+    c.loop-done.invariant.grows c.loop-done.invariant.labelled c.requires.some
+    (λ k short. c.loop-done.invariant.closed k (omega (arith, short, c.loop-done-test.false)))

@@ -3,6 +3,7 @@ use Rattle.std.proofs.Common.{◌≡◌, ◌≢◌, ℕ, ◌+◌, ◌-◌, ◌<�
 use Rattle.std.proofs.Common.{get_or-set_same, get_or-set_other}
 use Rattle.std.proofs.Common.{sym, ◌∙◌, ap, arith, refl, inl, inr}
 use Rattle.std.proofs.lemmas.Bool.{cases_eq, cases_lt}
+use Rattle.std.proofs.lemmas.List.{length-set}
 use Rattle.dinic_flow.specs.Balls.{Search, Reached, level_at, LeadsOn, WalksOn, IsLabelled, Grows, AreApart}
 use Rattle.dinic_flow.proofs.Walks.{walks-more}
 use Rattle.dinic_flow.proofs.Counting.{places-few}
@@ -137,6 +138,7 @@ module _ (search : Search) (back : Bool) (reached : Reached) (old : IsLabelled s
   pub grows-one : Grows reached (reached_more reached w next) next
   grows-one = record {
     more = omega arith;
+    size = length-set reached.label w next;
     same = old-place;
     kept = λ r some. label-kept reached.label w next r new.none some;
     fresh = λ k late short. let last : k ≡ reached.known = omega arith in rw last last-label;
@@ -146,6 +148,7 @@ module _ (search : Search) (back : Bool) (reached : Reached) (old : IsLabelled s
 pub grows-none : (reached : Reached) (next : ℕ) → Grows reached reached next
 grows-none reached next = record {
   more = omega arith;
+  size = refl;
   same = λ k below. refl;
   kept = λ r some. refl;
   fresh = λ k late short. absurd (omega (arith, late, short));
@@ -156,6 +159,7 @@ pub grows-more : {before between after : Reached} {next : ℕ} → 0 < next → 
     Grows between after next → Grows before after next
 grows-more {before = before} {between = between} {after = after} {next = next} some first second = record {
   more = omega (arith, first.more, second.more);
+  size = second.size ∙ first.size;
   same = λ k below. second.same k (omega (arith, first.more)) ∙ first.same k below;
   kept = λ r old. second.kept r (rw (first.kept r old) old) ∙ first.kept r old;
   fresh = λ k late short. elim (cases_lt k between.known) [
