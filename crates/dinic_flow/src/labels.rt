@@ -1,5 +1,5 @@
 //! Labels that are all taken away at once.
-ghost use Rattle.std.specs.Prelude.{◌≡◌, ◌<◌, ◌≤◌, IfOk, length, replicate};
+ghost use Rattle.std.specs.Prelude.{◌≡◌, ◌↔◌, ◌<◌, ◌≤◌, IfOk, IsTrue, length, replicate};
 ghost use Rattle.std.specs.Prelude.{slice_index, slice_set};
 ghost use Rattle.dinic_flow.specs.declared.labels.TheConstants.{MOST_LABEL};
 
@@ -59,6 +59,15 @@ impl Labels {
         ensures { result ≡ slice_index self.now router }
     {
         self.numbers[router as usize].saturating_sub(self.base)
+    }
+
+    /// Whether a router has a label.
+    #[inline(always)]
+    pub fn has(&self, router: u32) -> bool
+        requires { router < length self.now }
+        ensures { IsTrue result ↔ (0 < slice_index self.now router) }
+    {
+        self.numbers[router as usize] > self.base
     }
 
     /// Gives a router a label, or takes its label away where that is 0.

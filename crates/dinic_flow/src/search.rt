@@ -65,14 +65,6 @@ fn begin(centre: u32, label: &mut Labels, queue: &mut [u32]) -> Ball
     }
 }
 
-/// Whether a router has neither of two labels. One test costs less than two.
-#[inline(always)]
-fn is_new(first: u32, second: u32) -> bool
-    ensures { IsTrue result ↔ ((first ≡ 0) × (second ≡ 0)) }
-{
-    first | second == NO_LABEL
-}
-
 /// Gives the label to the head of an arc, and puts it into the queue, if the arc is open and the
 /// head has no label yet. Where the head is in the other ball, it stays so, and the balls are
 /// joined. At most one step.
@@ -111,23 +103,30 @@ fn reach<L: Ledger>(
         Crosses (search_of graph.now threshold) back other.now (tail_of graph.now.net place.arc) }
     ensures steps { steps.new ≤ steps.old + 1 }
 {
-    if is_new(label.get(place.head), other.get(place.head)) {
-        if graph.left_along(place.arc, back, steps) < threshold {
-            return Round {
-                known,
-                joined: false,
-            };
-        }
-        label.set(place.head, next);
-        queue[known] = place.head;
+    if label.has(place.head) {
         return Round {
-            known: known + 1,
+            known,
             joined: false,
         };
     }
-    let joined = label.get(place.head) == NO_LABEL
-        && graph.left_along(place.arc, back, steps) >= threshold;
-    Round { known, joined }
+    if graph.left_along(place.arc, back, steps) < threshold {
+        return Round {
+            known,
+            joined: false,
+        };
+    }
+    if other.has(place.head) {
+        return Round {
+            known,
+            joined: true,
+        };
+    }
+    label.set(place.head, next);
+    queue[known] = place.head;
+    Round {
+        known: known + 1,
+        joined: false,
+    }
 }
 
 /// Reaches on along the arcs of a router, until one joins the balls. At most one step an arc.
