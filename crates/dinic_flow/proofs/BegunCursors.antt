@@ -4,7 +4,7 @@ use Rattle.std.proofs.Common.{◌∙◌, arith, inl, inr}
 use Rattle.std.specs.Prelude.{◌⊎◌}
 use Rattle.std.proofs.lemmas.Bool.{cases_lt}
 use Rattle.cut_model.specs.Net.{Net}
-use Rattle.dinic_flow.specs.Phases.{AreBegun, IsBegunOn}
+use Rattle.dinic_flow.specs.Phases.{AreBegun, AreBegunOn}
 use Rattle.dinic_flow.specs.Balls.{Search, BallView, label_in, IsBall, AreBalls}
 use Rattle.dinic_flow.proofs.Levelling.{IsOneNumbering, kind-of}
 use Rattle.dinic_flow.proofs.JoinedBalls.{inner_of}
@@ -39,20 +39,17 @@ inner-one {search = search} {near = near} {far = far} final balls one r some =
       ]
     ]
 
--- Where the cursors of the one ball's routers were put at their first places, and then those of the other's, a phase
--- may begin.
-pub begun-both : {search : Search} {near far : BallView} {final : List ℕ} (net : Net) (before between after : List ℕ) →
+-- Where the cursors of both balls' routers are at their first places, a phase may begin.
+pub begun-both : {search : Search} {near far : BallView} {final : List ℕ} (net : Net) (cursor : List ℕ) →
     AreBalls search near far → IsOneNumbering near far final →
     near.stop ≤ length near.reached.queue → far.stop ≤ length far.reached.queue →
-    IsBegunOn net before between (inner_of near) → IsBegunOn net between after (inner_of far) →
-    AreBegun net final after
-begun-both {near = near} {far = far} {final = final} net before between after balls one near_room far_room first
-    second r some =
+    AreBegunOn net cursor (inner_of near) → AreBegunOn net cursor (inner_of far) → AreBegun net final cursor
+begun-both {near = near} {far = far} {final = final} net cursor balls one near_room far_room first second r some =
     elim (inner-one final balls one r some) [
       | inl (k, inside, is) ↦
           let (within, at) = front-of near.reached.queue near.stop k inside near_room in
-          second.kept r (rw (at ∙ is) at (first.begun k within))
+          rw (at ∙ is) at (first k within)
       | inr (k, inside, is) ↦
           let (within, at) = front-of far.reached.queue far.stop k inside far_room in
-          rw (at ∙ is) at (second.begun k within)
+          rw (at ∙ is) at (second k within)
     ]

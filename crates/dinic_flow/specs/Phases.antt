@@ -20,10 +20,14 @@ IsSpent net cursor r = slice_index cursor r ≡ begin_of net (r + 1)
 abbrev pub AreBegun : Net → List ℕ → List ℕ → Type 0
 AreBegun net label cursor = (r : ℕ) → 0 < slice_index label r → slice_index cursor r ≡ begin_of net r
 
+-- The cursors of the routers of the list are at their first places.
+abbrev pub AreBegunOn : Net → List ℕ → List ℕ → Type 0
+AreBegunOn net cursor queue =
+    (k : ℕ) → k < length queue → slice_index cursor (slice_index queue k) ≡ begin_of net (slice_index queue k)
+
 -- The cursors of the routers of the list are at their first places, and those that were there have stayed.
 pub record IsBegunOn (net : Net) (before after queue : List ℕ) : Type 0 where
-  pub begun :
-      (k : ℕ) → k < length queue → slice_index after (slice_index queue k) ≡ begin_of net (slice_index queue k)
+  pub begun : AreBegunOn net after queue
   pub kept : (r : ℕ) → slice_index before r ≡ begin_of net r → slice_index after r ≡ begin_of net r
 
 -- A moment of a phase: the residual graph, and the place at which each router's cursor stands.

@@ -10,7 +10,7 @@ ghost use Rattle.dinic_flow.specs.Levels.{IsOpen};
 ghost use Rattle.dinic_flow.specs.Balls.{search_of, reached_of, ball_of, round_of, grown_of};
 ghost use Rattle.dinic_flow.specs.Balls.{IsLabelled, Grows, LeadsOn, AreApart, Meets};
 ghost use Rattle.dinic_flow.specs.Balls.{IsBall, Crosses, work_of, IsLetOut, IsNumbered};
-ghost use Rattle.dinic_flow.specs.Phases.{IsBegunOn};
+ghost use Rattle.dinic_flow.specs.Phases.{AreBegunOn, IsBegunOn};
 ghost use Rattle.dinic_flow.specs.Searching.{IsFound};
 ghost use Rattle.dinic_flow.specs.declared.labels.TheConstants.{MOST_LABEL};
 
@@ -21,6 +21,9 @@ use std::sync::ledger::Ledger;
 
 /// The label of a router without a label.
 const NO_LABEL: u32 = 0;
+
+/// How many cursors are copied, about, in the time in which one is set alone.
+const COPIED_IN_ONE: usize = 8;
 
 /// What a search found.
 #[derive(Clone, Copy, Debug)]
@@ -303,6 +306,23 @@ fn begin_cursors(graph: &Residual, cursor: &mut [u32], queue: &[u32])
     }
 }
 
+/// Puts the cursors of the routers of both balls at their first places. Where the balls have many of the
+/// routers, all cursors are copied at once, which then takes less time.
+fn begin_both(graph: &Residual, cursor: &mut [u32], near: &[u32], far: &[u32])
+    requires cursor { length cursor.old ≡ graph.now.net.routers }
+    requires near { All (λ r. r < graph.now.net.routers) near.now }
+    requires far { All (λ r. r < graph.now.net.routers) far.now }
+    ensures near { AreBegunOn graph.now.net cursor.new near.now }
+    ensures far { AreBegunOn graph.now.net cursor.new far.now }
+{
+    if near.len() + far.len() > cursor.len() / COPIED_IN_ONE {
+        graph.copy_begins(cursor);
+    } else {
+        begin_cursors(graph, cursor, near);
+        begin_cursors(graph, cursor, far);
+    }
+}
+
 /// Searches a walk of fewest open arcs from s to t, by balls about both: the routers within so many
 /// open arcs of s, and those of which t is within so many. One of the two grows at a time, until an
 /// open arc joins the balls, or that of s can't grow (Pohl, 1971). It looks at each arc at most
@@ -311,7 +331,7 @@ fn begin_cursors(graph: &Residual, cursor: &mut [u32], queue: &[u32])
 /// Where they join, `label` has the levels, and the cursor of each router with a level is at its first
 /// place. Where they don't, `ahead` begins with the routers that s reaches. `marks` has the labels of
 /// the ball about t, and `behind` its routers: what the two hold afterwards means nothing. No list is
-/// written whole, so a search among few routers costs little in a large network.
+/// written whole for a search among few routers, so it costs little in a large network.
 pub fn search<L: Ledger>(
     graph: &Residual,
     s: u32,
@@ -347,8 +367,7 @@ pub fn search<L: Ledger>(
             if round.joined {
                 unlabel(label, &ahead[near.known..round.known]);
                 number(label, marks, &behind[..far.known], distance + 2);
-                begin_cursors(graph, cursor, &ahead[..near.known]);
-                begin_cursors(graph, cursor, &behind[..far.known]);
+                begin_both(graph, cursor, &ahead[..near.known], &behind[..far.known]);
                 return Found::Joined(distance);
             }
             near = near.grown(round.known);
@@ -356,8 +375,7 @@ pub fn search<L: Ledger>(
             let round = spread(graph, true, threshold, far, marks, label, behind, steps);
             if round.joined {
                 number(label, marks, &behind[..far.known], distance + 2);
-                begin_cursors(graph, cursor, &ahead[..near.known]);
-                begin_cursors(graph, cursor, &behind[..far.known]);
+                begin_both(graph, cursor, &ahead[..near.known], &behind[..far.known]);
                 return Found::Joined(distance);
             }
             far = far.grown(round.known);

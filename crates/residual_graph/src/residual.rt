@@ -1,6 +1,6 @@
 //! Residual graphs.
 ghost use Rattle.std.specs.Prelude.{◌≡◌, ℕ, ◌+◌, ◌*◌, ◌<◌, ◌≤◌, ◌≤ℤ◌, ◌↔◌, All, IfOk, IsTrue};
-ghost use Rattle.std.specs.Prelude.{[], length, pos, replicate, slice_index_or, slice_index, sum_by, true};
+ghost use Rattle.std.specs.Prelude.{[], drop, length, pos, replicate, slice_index_or, slice_index, sum_by, true};
 ghost use Rattle.std.specs.List.Sorted.{IsStrictlyIncreasing};
 ghost use Rattle.cut_model.specs.declared.network.TheConstants.{MOST_ROUTERS, MOST_LINKS};
 ghost use Rattle.residual_graph.specs.Arcs.{arc_count, arcs_from, cap_of, head_of, tail_of, turned};
@@ -290,6 +290,18 @@ impl Residual {
         ensures sound { IsSound self.now }
     {
         self.places[at as usize]
+    }
+
+    /// Writes each router's first place to the front of a list, and leaves the rest of it. In `net`, a
+    /// list `[9, 9, 9, 9]` becomes `[0, 2, 7, 9]`.
+    pub fn copy_begins(&self, cursor: &mut [u32])
+        requires { self.now.net.routers ≤ length cursor.old }
+        ensures begins { (router : ℕ) → router < self.now.net.routers →
+            slice_index cursor.new router ≡ begin_of self.now.net router }
+        ensures rest { drop self.now.net.routers cursor.new ≡ drop self.now.net.routers cursor.old }
+    {
+        let routers = self.routers as usize;
+        cursor[..routers].copy_from_slice(&self.first[..routers]);
     }
 
     /// The capacities of the arcs that leave a router, together: a link from the router to itself

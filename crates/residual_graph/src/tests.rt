@@ -80,5 +80,8 @@ fn where_arcs_stand(rt: HostRuntime) -> Result<(), Fail> {
     assert_eq!(rt; graph.begin(3), 8);
     assert_eq!(rt; graph.place(6), Place { head: 2, arc: 7 });
     assert_eq!(rt; graph.around(1), 27);
+    let mut cursor = [9; 4];
+    graph.copy_begins(&mut cursor);
+    assert_eq!(rt; cursor, [0, 2, 7, 9]);
     Ok(())
 }

@@ -50,13 +50,13 @@ pub number-requires-clause-marks : goal.number-requires-clause-marks
 number-requires-clause-marks g c =
     front-routers c.loop-near.invariant.balls.far_ball.labelled c.loop-near.far.known _ (omega arith) (omega arith)
 
-pub begin_cursors-requires-clause-routers : goal.begin_cursors-requires-clause-routers
-begin_cursors-requires-clause-routers g c =
+pub begin_both-requires-clause-near : goal.begin_both-requires-clause-near
+begin_both-requires-clause-near g c =
     let stopped = c.spread-round.ensures.stopped c.if-round.true in
     front-routers stopped.labelled c.loop-near.near.known _ (omega (arith, c.spread-round.ensures.more)) (omega arith)
 
-pub begin_cursors-requires-then-round-clause-routers : goal.begin_cursors-requires-then-round-clause-routers
-begin_cursors-requires-then-round-clause-routers g c =
+pub begin_both-requires-clause-far : goal.begin_both-requires-clause-far
+begin_both-requires-clause-far g c =
     front-routers c.loop-near.invariant.balls.far_ball.labelled c.loop-near.far.known _ (omega arith) (omega arith)
 
 pub number-requires-then-round-2-clause-label : goal.number-requires-then-round-2-clause-label
@@ -73,12 +73,12 @@ number-requires-then-round-2-clause-marks g c =
     front-routers stopped.labelled c.loop-near.far.known _ (omega (arith, round.ensures.more))
     (omega (arith, c.requires.marks, round.ensures.label, c.loop-near.invariant.marks))
 
-pub begin_cursors-requires-then-round-2-clause-routers : goal.begin_cursors-requires-then-round-2-clause-routers
-begin_cursors-requires-then-round-2-clause-routers g c =
+pub begin_both-requires-then-round-2-clause-near : goal.begin_both-requires-then-round-2-clause-near
+begin_both-requires-then-round-2-clause-near g c =
     front-routers c.loop-near.invariant.balls.near_ball.labelled c.loop-near.near.known _ (omega arith) (omega arith)
 
-pub begin_cursors-requires-then-round-2-2-clause-routers : goal.begin_cursors-requires-then-round-2-2-clause-routers
-begin_cursors-requires-then-round-2-2-clause-routers g c =
+pub begin_both-requires-then-round-2-clause-far : goal.begin_both-requires-then-round-2-clause-far
+begin_both-requires-then-round-2-clause-far g c =
     let round = c.spread-round-else-grows_near in
     let stopped = round.ensures.stopped c.if-round-2.true in
     front-routers stopped.labelled c.loop-near.far.known _ (omega (arith, round.ensures.more)) (omega arith)
@@ -115,9 +115,8 @@ returns-then-round-clause-found g c =
             round.ensures.label,
             old.label,
           ))),
-      begun-both c.args.graph.now.net c.loop-near.cursor c.begin_cursors.new.cursor
-          c.begin_cursors-then-round.new.cursor balls one (omega (arith, round.ensures.more, near_room)) far_room
-          c.begin_cursors.ensures c.begin_cursors-then-round.ensures,
+      begun-both c.args.graph.now.net c.begin_both.new.cursor balls one
+          (omega (arith, round.ensures.more, near_room)) far_room c.begin_both.ensures.near c.begin_both.ensures.far,
     )
 
 pub returns-then-round-clause-steps : goal.returns-then-round-clause-steps
@@ -177,10 +176,9 @@ returns-then-round-2-clause-found g c =
           (c.if-grows_near.ensures (search rules)) far_room (round.ensures.meets c.if-round-2.true)
           c.number-then-round-2.ensures
           (omega (arith, c.requires.label, c.number-then-round-2.ensures.size, old.label))),
-      begun-both c.args.graph.now.net c.loop-near.cursor c.begin_cursors-then-round-2.new.cursor
-          c.begin_cursors-then-round-2-2.new.cursor balls one
-          (omega (arith, old.near_few, c.loop-near.auto.ahead)) far_room c.begin_cursors-then-round-2.ensures
-          c.begin_cursors-then-round-2-2.ensures,
+      begun-both c.args.graph.now.net c.begin_both-then-round-2.new.cursor balls one
+          (omega (arith, old.near_few, c.loop-near.auto.ahead)) far_room c.begin_both-then-round-2.ensures.near
+          c.begin_both-then-round-2.ensures.far,
     )
 
 pub returns-then-round-2-clause-steps : goal.returns-then-round-2-clause-steps
