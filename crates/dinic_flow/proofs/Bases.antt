@@ -1,7 +1,7 @@
 -- Labels on top of a base: one that is given, and a base that rises past all numbers.
 use Rattle.std.proofs.Common.{◌≡◌, ℕ, ◌+◌, ◌-◌, ◌<◌, ◌≤◌, List, [], ◌∷◌, length, get_or, set, replicate}
 use Rattle.std.proofs.Common.{suc, ◌∙◌, ap, arith, refl}
-use Rattle.std.proofs.lemmas.List.{map-set}
+use Rattle.std.proofs.lemmas.List.{map-set, get_or-map}
 use Rattle.dinic_flow.specs.Labels.{labels_above}
 
 -- A label is what its number is above the base.
@@ -22,3 +22,9 @@ labels_above-none base (x ∷ xs) low =
     let rest : labels_above base xs ≡ replicate (length xs) 0 =
     labels_above-none base xs (λ i within. low (suc i) (omega (arith, within))) in
     rw (first, rest) refl
+
+-- Where no number is farther above the base, no label is greater.
+pub labels_above-most : (base : ℕ) (numbers : List ℕ) (most router : ℕ) → router < length numbers →
+    get_or numbers router 0 ≤ base + most → get_or (labels_above base numbers) router 0 ≤ most
+labels_above-most base numbers most router within low =
+    omega (arith, get_or-map (λ (n : ℕ). n - base) numbers router 0 0 within, low)

@@ -98,7 +98,8 @@ fn send_over<L: Ledger>(
         (tally_of cursor.old (steps.old + 2)) (tally_of cursor.new steps.new) }
 {
     let place = graph.place(at);
-    if label.get(place.head) != next {
+    label.is_low(t);
+    if !label.is(place.head, next) {
         return 0;
     }
     if cursor[place.head as usize] == graph.begin(place.head + 1) {

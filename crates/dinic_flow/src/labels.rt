@@ -70,6 +70,26 @@ impl Labels {
         self.numbers[router as usize] > self.base
     }
 
+    /// Whether a router has just this label.
+    #[inline(always)]
+    pub fn is(&self, router: u32, label: u32) -> bool
+        requires router { router < length self.now }
+        requires some { 0 < label }
+        requires low { label ≤ MOST_LABEL }
+        ensures { IsTrue result ↔ (slice_index self.now router ≡ label) }
+    {
+        self.numbers[router as usize] == self.base + label
+    }
+
+    /// No label is above [`MOST_LABEL`]. A law: a call does nothing.
+    #[inline(always)]
+    pub fn is_low(&self, router: u32)
+        requires { router < length self.now }
+        ensures { slice_index self.now router ≤ MOST_LABEL }
+    {
+        let _ = &self.numbers;
+    }
+
     /// Gives a router a label, or takes its label away where that is 0.
     #[inline(always)]
     pub fn set(&mut self, router: u32, label: u32)

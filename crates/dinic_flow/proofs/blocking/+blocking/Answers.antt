@@ -2,6 +2,7 @@
 use Rattle.std.proofs.Common.{◌≡◌, ◌≢◌, ℕ, ◌+◌, ◌-◌, ◌<◌, ◌≤◌, get_or}
 use Rattle.std.proofs.Common.{sym, ◌∙◌, ap, subst, arith, inr, rules}
 use Rattle.std.specs.Prelude.{pos}
+use Rattle.std.proofs.lemmas.Bool.{false≢true}
 use Rattle.cut_model.specs.Net.{Net}
 use Rattle.residual_graph.specs.declared.place.Place.{Place}
 use Rattle.residual_graph.specs.Arcs.{tail_of, head_of, arc_count}
@@ -15,16 +16,16 @@ use Rattle.dinic_flow.proofs.Passing.{passing-net, is_next, passing-more, passin
 use Rattle.dinic_flow.proofs.Passing.{levels_above, passed-phase, passed-sends, passed-costs, last-costs}
 use Rattle.dinic_flow.proofs.blocking.+blocking.Goals as goal
 
-pub send_over-returns-then-get-next-clause-blocked : goal.send_over-returns-then-get-next-clause-blocked
-send_over-returns-then-get-next-clause-blocked g t c = λ _.
+pub send_over-returns-then-not-is-clause-blocked : goal.send_over-returns-then-not-is-clause-blocked
+send_over-returns-then-not-is-clause-blocked g t c = λ _.
     let aim : Aim = aim_of c.args.threshold c.args.t c.args.label.now in
     let now : Moment = moment_of c.args.graph.now c.args.cursor.now in
     let net : Net = now.view.net in
     let head : c.place-place.result.head ≡ head_of net (place_at net c.args.at).arc =
     ap (λ (p : Place). p.head) c.place-place.ensures.value ∙ place_at-head net c.args.at in
     blocked-level aim now (place_at net c.args.at).arc
-    (λ leads. c.if-get-next.true
-    (c.get.ensures ∙ ap (λ (r : ℕ). get_or aim.label r 0) head ∙ leads ∙ sym c.requires.next))
+    (λ leads. false≢true (sym c.if-not-is.true
+    ∙ c.is.ensures.1 (ap (λ (r : ℕ). get_or aim.label r 0) head ∙ leads ∙ sym c.requires.next)))
 
 pub send_over-returns-then-cursor-place-clause-blocked : goal.send_over-returns-then-cursor-place-clause-blocked
 send_over-returns-then-cursor-place-clause-blocked g t c = λ _ leads.
@@ -46,7 +47,7 @@ send_over-returns-clause-phase g t c =
     let before : Moment = moment_of c.args.graph.now c.args.cursor.now in
     let between : Moment = moment_of c.send_on-sent.new.graph c.send_on-sent.new.cursor in
     let over = is_over aim before between c.push_some.new.graph c.place-place.result c.args.at c.send_on-sent.result
-    c.place-place.ensures.value c.place-place.ensures.arc (sym c.get.ensures ∙ c.if-get-next.false ∙ c.requires.next)
+    c.place-place.ensures.value c.place-place.ensures.arc (c.is.ensures.0 c.if-not-is.false ∙ c.requires.next)
     c.send_on-sent.ensures.sends c.send_on-sent.ensures.phase c.push_some.ensures.value in
     phase-push aim between c.push_some.new.graph (place_at before.view.net c.args.at).arc c.send_on-sent.result
     over.push (rw over.same (omega (arith, c.requires.next, c.requires.labelled))) c.push_some.ensures.sound
@@ -58,7 +59,7 @@ send_over-returns-clause-sends g t c =
     let before : Moment = moment_of c.args.graph.now c.args.cursor.now in
     let between : Moment = moment_of c.send_on-sent.new.graph c.send_on-sent.new.cursor in
     let over = is_over aim before between c.push_some.new.graph c.place-place.result c.args.at c.send_on-sent.result
-    c.place-place.ensures.value c.place-place.ensures.arc (sym c.get.ensures ∙ c.if-get-next.false ∙ c.requires.next)
+    c.place-place.ensures.value c.place-place.ensures.arc (c.is.ensures.0 c.if-not-is.false ∙ c.requires.next)
     c.send_on-sent.ensures.sends c.send_on-sent.ensures.phase c.push_some.ensures.value in
     over-sends aim before between c.push_some.new.graph (place_at before.view.net c.args.at).arc
     c.send_on-sent.result over
@@ -69,7 +70,7 @@ send_over-returns-clause-blocked g t c =
     let before : Moment = moment_of c.args.graph.now c.args.cursor.now in
     let between : Moment = moment_of c.send_on-sent.new.graph c.send_on-sent.new.cursor in
     let over = is_over aim before between c.push_some.new.graph c.place-place.result c.args.at c.send_on-sent.result
-    c.place-place.ensures.value c.place-place.ensures.arc (sym c.get.ensures ∙ c.if-get-next.false ∙ c.requires.next)
+    c.place-place.ensures.value c.place-place.ensures.arc (c.is.ensures.0 c.if-not-is.false ∙ c.requires.next)
     c.send_on-sent.ensures.sends c.send_on-sent.ensures.phase c.push_some.ensures.value in
     let net : Net = before.view.net in
     let arc : ℕ = (place_at net c.args.at).arc in
