@@ -1,7 +1,8 @@
 -- What some words name.
 use Rattle.std.proofs.Common.{◌≡◌, [], ◌∷◌, Some, None, refl, codes}
 use Rattle.planner_server.specs.Commands.{command_of}
-use Rattle.planner_server.specs.declared.command.Command.TheVariants.{Plan, Check}
+use Rattle.planner_server.specs.declared.command.Command.TheVariants.{Plan, Check, Make}
+use Rattle.planner_server.specs.declared.command.Making.{Making}
 
 -- the option may be missing
 plain : command_of (codes "plan" ∷ []) ≡ Some (Plan 1)
@@ -41,6 +42,52 @@ check = refl
 
 check_with_word : command_of (codes "check" ∷ codes "x" ∷ []) ≡ None
 check_with_word = refl
+
+-- a made network: its three numbers in any order, and one worker where no other number stands
+abbrev small : Making
+small = record { seed = 7; routers = 3; links = 3; workers = 1 }
+
+make : command_of (codes "make" ∷ codes "--seed=7" ∷ codes "--routers=3" ∷ codes "--links=3" ∷ []) ≡ Some (Make small)
+make = refl
+
+abbrev large : Making
+large = record { seed = 65535; routers = 1024; links = 8192; workers = 16 }
+
+make_the_most : command_of (codes "make" ∷ codes "--links=8192" ∷ codes "--workers=16" ∷ codes "--routers=1024"
+    ∷ codes "--seed=65535" ∷ []) ≡ Some (Make large)
+make_the_most = refl
+
+abbrev least : Making
+least = record { seed = 0; routers = 2; links = 0; workers = 1 }
+
+make_the_least : command_of (codes "make" ∷ codes "--seed=0" ∷ codes "--routers=2" ∷ codes "--links=0" ∷ [])
+    ≡ Some (Make least)
+make_the_least = refl
+
+-- an option is missing
+make_without_links : command_of (codes "make" ∷ codes "--seed=7" ∷ codes "--routers=3" ∷ []) ≡ None
+make_without_links = refl
+
+-- an option stands there twice
+two_seeds : command_of (codes "make" ∷ codes "--seed=7" ∷ codes "--routers=3" ∷ codes "--links=3" ∷ codes "--seed=7"
+    ∷ []) ≡ None
+two_seeds = refl
+
+-- one above the greatest seed
+large_seed : command_of (codes "make" ∷ codes "--seed=65536" ∷ codes "--routers=3" ∷ codes "--links=3" ∷ []) ≡ None
+large_seed = refl
+
+-- one router has no other
+one_router : command_of (codes "make" ∷ codes "--seed=1" ∷ codes "--routers=1" ∷ codes "--links=0" ∷ []) ≡ None
+one_router = refl
+
+-- one link too many
+many_links : command_of (codes "make" ∷ codes "--seed=7" ∷ codes "--routers=3" ∷ codes "--links=8193" ∷ []) ≡ None
+many_links = refl
+
+-- `plan` takes no seed
+plan_with_seed : command_of (codes "plan" ∷ codes "--seed=7" ∷ []) ≡ None
+plan_with_seed = refl
 
 -- no words
 no_words : command_of [] ≡ None

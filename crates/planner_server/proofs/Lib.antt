@@ -1,3 +1,4 @@
 pub mod Deciding
 pub mod Examples
+pub mod Ranges
 pub mod Reading

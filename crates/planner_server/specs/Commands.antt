@@ -1,20 +1,29 @@
 -- The command that the words of a command line name.
-use Rattle.std.specs.Prelude.{ℕ, List, [], ◌∷◌, Some, None, codes, if◌then◌else◌}
+use Rattle.std.specs.Prelude.{ℕ, ◌≤◌, List, [], ◌∷◌, Some, None, codes, if◌then◌else◌}
 use Rattle.std.specs.Option.{option_map}
 use Rattle.std.specs.Str.{bytes_eq}
 use Rattle.std.specs.declared.option.Option.{Option}
+use Rattle.cut_model.specs.declared.network.TheConstants.{MOST_LINKS, MOST_ROUTERS}
+use Rattle.job_queue.specs.declared.jobs.TheConstants.{MOST_WORKERS}
+use Rattle.made_networks.specs.declared.draws.TheConstants.{MOST_SEED}
 use Rattle.planner_server.specs.Options.{are_options, given_in}
 use Rattle.planner_server.specs.declared.command.Command.{Command}
-use Rattle.planner_server.specs.declared.command.Command.TheVariants.{Plan, Check}
+use Rattle.planner_server.specs.declared.command.Command.TheVariants.{Plan, Check, Make}
+use Rattle.planner_server.specs.declared.command.Making.{Making}
 use Rattle.planner_server.specs.declared.options.Given.{Given}
 use Rattle.planner_server.specs.declared.options.Given.TheVariants.{Missing, Number, Wrong}
-use Rattle.planner_server.specs.declared.options.OptionName.TheVariants.{Workers}
+use Rattle.planner_server.specs.declared.options.OptionName.TheVariants.{Workers, Seed, Routers, Links}
 
 -- the number of an option that may be missing, and is then the usual one; none where it is given wrongly
 abbrev pub number_or : ℕ → Given → Option ℕ
 number_or usual Missing = Some usual
 number_or usual (Number n) = Some n
 number_or usual Wrong = None
+
+-- the number of an option that must stand there; none where it is missing or given wrongly
+abbrev pub needed : Given → Option ℕ
+needed (Number n) = Some n
+needed given = None
 
 -- `plan` with these options
 abbrev pub plan_of : List (List ℕ) → Option Command
@@ -26,10 +35,36 @@ abbrev pub check_of : List (List ℕ) → Option Command
 check_of [] = Some Check
 check_of (option ∷ options) = None
 
+-- what `make` is asked for by its four numbers, if each is told
+abbrev pub making_by : Option ℕ → Option ℕ → Option ℕ → Option ℕ → Option Making
+making_by (Some seed) (Some routers) (Some links) (Some workers) =
+    Some record { seed = seed; routers = routers; links = links; workers = workers }
+making_by seed routers links workers = None
+
+-- what these options ask `make` for: three numbers that must stand there, and one worker where they say no other number
+abbrev pub making_of : List (List ℕ) → Option Making
+making_of options = making_by (needed (given_in Seed options)) (needed (given_in Routers options))
+    (needed (given_in Links options)) (number_or 1 (given_in Workers options))
+
+-- `make` with these options
+abbrev pub make_of : List (List ℕ) → Option Command
+make_of options =
+    if are_options (Seed ∷ Routers ∷ Links ∷ Workers ∷ []) options then option_map Make (making_of options) else None
+
+-- what `make` is asked for is within the limits
+pub record IsInRanges (making : Making) : Type 0 where
+  pub most_seed : making.seed ≤ MOST_SEED
+  pub two : 2 ≤ making.routers
+  pub most_routers : making.routers ≤ MOST_ROUTERS
+  pub most_links : making.links ≤ MOST_LINKS
+  pub some : 1 ≤ making.workers
+  pub most_workers : making.workers ≤ MOST_WORKERS
+
 -- the command that the words name, if they name one
 abbrev pub command_of : List (List ℕ) → Option Command
 command_of [] = None
 command_of (name ∷ options) =
     if bytes_eq name (codes "plan") then plan_of options
     else if bytes_eq name (codes "check") then check_of options
+    else if bytes_eq name (codes "make") then make_of options
     else None

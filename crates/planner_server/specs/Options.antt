@@ -6,21 +6,32 @@ use Rattle.std.specs.declared.option.Option.{Option}
 use Rattle.planner_server.specs.declared.options.Given.{Given}
 use Rattle.planner_server.specs.declared.options.Given.TheVariants.{Missing, Number, Wrong}
 use Rattle.planner_server.specs.declared.options.OptionName.{OptionName}
-use Rattle.planner_server.specs.declared.options.OptionName.TheVariants.{Workers}
+use Rattle.planner_server.specs.declared.options.OptionName.TheVariants.{Workers, Seed, Routers, Links}
+use Rattle.cut_model.specs.declared.network.TheConstants.{MOST_LINKS, MOST_ROUTERS}
 use Rattle.job_queue.specs.declared.jobs.TheConstants.{MOST_WORKERS}
+use Rattle.made_networks.specs.declared.draws.TheConstants.{MOST_SEED}
 use Rattle.text_forms.specs.Numbers.{number_in}
 
 -- what a word of this option begins with
 abbrev pub spelling_of : OptionName → List ℕ
 spelling_of Workers = codes "--workers="
+spelling_of Seed = codes "--seed="
+spelling_of Routers = codes "--routers="
+spelling_of Links = codes "--links="
 
 -- the least number that the option takes
 abbrev pub least_of : OptionName → ℕ
 least_of Workers = 1
+least_of Seed = 0
+least_of Routers = 2
+least_of Links = 0
 
 -- the greatest number that the option takes
 abbrev pub most_of : OptionName → ℕ
 most_of Workers = MOST_WORKERS
+most_of Seed = MOST_SEED
+most_of Routers = MOST_ROUTERS
+most_of Links = MOST_LINKS
 
 -- a word of this option
 abbrev pub is_of : OptionName → List ℕ → Bool

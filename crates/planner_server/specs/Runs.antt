@@ -1,13 +1,18 @@
 -- What a run of a command leaves.
-use Rattle.std.specs.Prelude.{◌≡◌, ℕ, ◌<◌, ◌⊎◌, List, [], ◌++◌, length, Bool, true, false, Some, None}
+use Rattle.std.specs.Prelude.{◌≡◌, ℕ, ◌<◌, ◌≤◌, ◌⊎◌, List, [], ◌++◌, length, take, true, false, Some, None}
+use Rattle.std.specs.Io.KnownBytes.{Appends}
 use Rattle.std.specs.declared.option.Option.{Option}
 use Rattle.certifier.specs.Certificates.{verdict_on}
 use Rattle.certifier.specs.Checks.{Checks, Tells}
 use Rattle.certifier.specs.declared.checking.CheckEnd.{CheckEnd}
 use Rattle.certifier.specs.declared.checking.CheckEnd.TheVariants as check_ends
 use Rattle.line_reader.specs.declared.reader.TheConstants.{MOST_BYTES}
+use Rattle.made_networks.specs.Draws.{made_net}
+use Rattle.made_networks.specs.Summaries.{IsSummaryOf, summary_text}
+use Rattle.made_networks.specs.declared.summary.Summary.{Summary}
 use Rattle.planner_server.specs.declared.command.Command.{Command}
-use Rattle.planner_server.specs.declared.command.Command.TheVariants.{Plan, Check}
+use Rattle.planner_server.specs.declared.command.Command.TheVariants.{Plan, Check, Make}
+use Rattle.planner_server.specs.declared.command.Making.{Making}
 use Rattle.planner_server.specs.declared.outcome.Status.{Status}
 use Rattle.planner_server.specs.declared.outcome.Status.TheVariants.{Done, BadWords, ReadFault, WriteFault}
 use Rattle.planner_server.specs.declared.outcome.Status.TheVariants.{NoMemory, TooLong, NotAccepted}
@@ -104,13 +109,53 @@ pub record CheckRan (status : Status) (run : RunView) : Type 0 where
       → Tells end (verdict_on true bytes) ⊎ (end ≡ check_ends.NoMemory)
   pub no_record : run.records ≡ []
 
--- At this end nothing was read or written: where there is no command, and where `plan` had no memory to begin with.
+-- A summary is that of the network that is asked for.
+abbrev pub IsMadeSummary : Making → Summary → Type 0
+IsMadeSummary making summary = IsSummaryOf (made_net making.seed making.routers making.links) summary
+
+-- All three lines of the network's summary were written.
+pub record WritesSummary (making : Making) (before now : Option (List ℕ)) : Type 0 where
+  pub summary : Summary
+  pub is_made : IsMadeSummary making summary
+  pub wrote : Appends before now (summary_text summary)
+
+-- A front of these lines was written.
+pub record WritesFront (making : Making) (before now : Option (List ℕ)) : Type 0 where
+  pub summary : Summary
+  pub is_made : IsMadeSummary making summary
+  pub count : ℕ
+  pub most : count ≤ length (summary_text summary)
+  pub wrote : Appends before now (take count (summary_text summary))
+
+-- what was written in a run of `make` that ended so
+abbrev pub MakeEnds : Making → Status → Option (List ℕ) → Option (List ℕ) → Type 0
+MakeEnds making Done before now = WritesSummary making before now
+MakeEnds making WriteFault before now = WritesFront making before now
+MakeEnds making NoMemory before now = now ≡ before
+MakeEnds making BadWords before now = ⊥
+MakeEnds making ReadFault before now = ⊥
+MakeEnds making TooLong before now = ⊥
+MakeEnds making NotAccepted before now = ⊥
+
+-- The summary of the network that is asked for was written, as the end says. Where no put fails it is written, unless
+-- memory was wanted. The source is as it was, and there are no records.
+pub record MakeRan (making : Making) (status : Status) (run : RunView) : Type 0 where
+  pub ends : MakeEnds making status run.start.wire.written run.now.wire.written
+  pub completes : (WriteFailed run → ⊥) → (status ≡ Done) ⊎ (status ≡ NoMemory)
+  pub left : run.now.wire.left ≡ run.start.wire.left
+  pub ended : run.now.wire.ended ≡ run.start.wire.ended
+  pub reads : run.now.read_faults ≡ run.start.read_faults
+  pub no_record : run.records ≡ []
+
+-- At this end nothing was read or written: where there is no command, and where `plan` or `make` had no memory.
 abbrev pub IsUntouched : Option Command → Status → Type 0
 IsUntouched None status = Unit {0}
 IsUntouched (Some (Plan workers)) status = status ≡ NoMemory
 IsUntouched (Some Check) status = ⊥
+IsUntouched (Some (Make making)) status = status ≡ NoMemory
 
 -- the command was run, ended so, and met and left this
 abbrev pub Ran : Command → Status → RunView → Type 0
 Ran (Plan workers) status run = PlanRan status run
 Ran Check status run = CheckRan status run
+Ran (Make making) status run = MakeRan making status run

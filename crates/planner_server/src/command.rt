@@ -1,7 +1,7 @@
 //! The command that the words of a command line name.
 ghost use Rattle.std.specs.Prelude.{◌≡◌, map};
 ghost use Rattle.std.specs.String.{string_bytes};
-ghost use Rattle.planner_server.specs.Commands.{check_of, command_of, number_or, plan_of};
+ghost use Rattle.planner_server.specs.Commands.{check_of, command_of, make_of, making_of, needed, number_or, plan_of};
 
 use crate::options::{Given, OptionName, are_options};
 
@@ -15,6 +15,21 @@ pub enum Command {
     },
     /// The check of a certificate that the source tells.
     Check,
+    /// The summary of a made network.
+    Make(Making),
+}
+
+/// What `make` is asked for: a made network, and by how many workers its tree is built.
+#[derive(Clone, Copy, PartialEq, Eq, Debug)]
+pub struct Making {
+    /// The seed: 0 to 65535.
+    pub seed: u32,
+    /// How many routers the network has: 2 to 1024.
+    pub routers: u32,
+    /// How many links it has: 0 to 8192.
+    pub links: u32,
+    /// How many workers at most build its tree: 1 to 16.
+    pub workers: u32,
 }
 
 /// The number of an option that may be missing, and is then the usual one; none where it is given wrongly.
@@ -25,6 +40,16 @@ fn number_or(usual: u32, given: Given) -> Option<u32>
         Given::Missing => Some(usual),
         Given::Number(number) => Some(number),
         Given::Wrong => None,
+    }
+}
+
+/// The number of an option that must stand there; none where it is missing or given wrongly.
+fn needed(given: Given) -> Option<u32>
+    ensures { result ≡ needed given }
+{
+    match given {
+        Given::Number(number) => Some(number),
+        Given::Missing | Given::Wrong => None,
     }
 }
 
@@ -46,6 +71,39 @@ fn read_check(options: &[String]) -> Option<Command>
     options.is_empty().then_some(Command::Check)
 }
 
+/// What these options ask `make` for, if they do.
+fn read_making(options: &[String]) -> Option<Making>
+    ensures { result ≡ making_of (map string_bytes options.now) }
+{
+    let seed = needed(OptionName::Seed.given_in(options))?;
+    let routers = needed(OptionName::Routers.given_in(options))?;
+    let links = needed(OptionName::Links.given_in(options))?;
+    let workers = number_or(1, OptionName::Workers.given_in(options))?;
+    Some(Making {
+        seed,
+        routers,
+        links,
+        workers,
+    })
+}
+
+/// The command `make` with these options.
+fn read_make(options: &[String]) -> Option<Command>
+    ensures { result ≡ make_of (map string_bytes options.now) }
+{
+    let names = [
+        OptionName::Seed,
+        OptionName::Routers,
+        OptionName::Links,
+        OptionName::Workers,
+    ];
+    if !are_options(options, &names) {
+        return None;
+    }
+    let making = read_making(options)?;
+    Some(Command::Make(making))
+}
+
 /// The command that the words name, if they name one. Goes over each word a few times.
 pub fn read_command(words: &[String]) -> Option<Command>
     ensures { result ≡ command_of (map string_bytes words.now) }
@@ -56,6 +114,7 @@ pub fn read_command(words: &[String]) -> Option<Command>
     match name.as_str() {
         "plan" => read_plan(options),
         "check" => read_check(options),
+        "make" => read_make(options),
         _ => None,
     }
 }

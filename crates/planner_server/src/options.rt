@@ -6,7 +6,9 @@ ghost use Rattle.planner_server.specs.Options.{are_options, given_in, is_of, lea
 ghost use Rattle.planner_server.specs.Options.{spelling_of};
 ghost use Rattle.text_forms.specs.Numbers.{number_in};
 
+use cut_model::{MOST_LINKS, MOST_ROUTERS};
 use job_queue::MOST_WORKERS;
+use made_networks::MOST_SEED;
 use text_forms::parse_number;
 
 /// The name of an option.
@@ -14,6 +16,12 @@ use text_forms::parse_number;
 pub enum OptionName {
     /// How many workers at most build a tree: 1 to 16.
     Workers,
+    /// The seed of a made network: 0 to 65535.
+    Seed,
+    /// How many routers a made network has: 2 to 1024.
+    Routers,
+    /// How many links a made network has: 0 to 8192.
+    Links,
 }
 
 /// What the words of a command line give to an option.
@@ -34,6 +42,9 @@ impl OptionName {
     {
         match self {
             OptionName::Workers => b"--workers=",
+            OptionName::Seed => b"--seed=",
+            OptionName::Routers => b"--routers=",
+            OptionName::Links => b"--links=",
         }
     }
 
@@ -43,6 +54,9 @@ impl OptionName {
     {
         match self {
             OptionName::Workers => 1,
+            OptionName::Seed => 0,
+            OptionName::Routers => 2,
+            OptionName::Links => 0,
         }
     }
 
@@ -52,6 +66,9 @@ impl OptionName {
     {
         match self {
             OptionName::Workers => MOST_WORKERS,
+            OptionName::Seed => MOST_SEED,
+            OptionName::Routers => MOST_ROUTERS,
+            OptionName::Links => MOST_LINKS as u32,
         }
     }
 

@@ -1,28 +1,30 @@
 //! The top call.
-ghost use Rattle.std.specs.Prelude.{◌≡◌, ◌≢◌, ◌<◌, ◌≤◌, ◌↔◌, ◌⊎◌, [], None};
+ghost use Rattle.std.specs.Prelude.{◌≡◌, ◌≢◌, ◌<◌, ◌≤◌, ◌↔◌, ◌⊎◌, [], None, false};
 ghost use Rattle.std.specs.Prelude.{length, map, IfOk, IfSome};
 ghost use Rattle.std.specs.String.{string_bytes};
 ghost use Rattle.job_queue.specs.declared.jobs.TheConstants.{MOST_WORKERS};
-ghost use Rattle.planner_server.specs.Commands.{command_of};
-ghost use Rattle.planner_server.specs.Runs.{CheckRan, IsUntouched, PlanRan, Ran, ports};
+ghost use Rattle.planner_server.specs.Commands.{IsInRanges, command_of};
+ghost use Rattle.planner_server.specs.Runs.{CheckRan, IsMadeSummary, IsUntouched, MakeEnds, PlanRan, Ran, ports};
 ghost use Rattle.planner_server.specs.Statuses.{is_read_fault, is_write_fault, status_of};
 ghost use Rattle.tree_versions.specs.Records.{AreCutTrees, AreFinished};
 ghost use Rattle.tree_versions.specs.Solo.{views_of};
 ghost use Rattle.tree_versions.specs.declared.shelf.TheConstants.{MOST_RECORDS};
-ghost use Rattle.wires.specs.Causes.{CountsOne};
+ghost use Rattle.wires.specs.Causes.{CountsOne, Rose};
 
-use crate::command::{Command, read_command};
+use crate::command::{Command, Making, read_command};
 use crate::{Outcome, Status};
 use certifier::{CheckEnd, check};
 use cut_model::NoMemory;
 use job_queue::MOST_WORKERS;
+use made_networks::{Summary, make_network, sum_up, write_summary};
+use path_minimum::Ladder;
 use session::{Session, SessionEnd, serve_session};
 use std::alloc::Global;
-use std::sync::Wait;
+use std::sync::{Arc, Wait};
 use std::thread::Threads;
 use tree_versions::SoloShelf;
 use wires::{Pair, Sink, Source};
-use worker_gate::Gate;
+use worker_gate::{Gate, build_tree};
 
 /// All that `plan` needs: a session, and the shelf on which its records are published.
 #[derive(Drop)]
@@ -180,6 +182,53 @@ fn check_text<S: Source, K: Sink>(alloc: Global, source: &mut S, sink: &mut K) -
     without_records(alloc, Status::from(end))
 }
 
+/// The summary of the network that is asked for, by a tree of it that the workers build. Any tree of it has this one
+/// summary.
+fn made_summary<R: Threads + Wait + Sync, G: Gate + Sync>(
+    alloc: Global,
+    rt: &R,
+    making: Making,
+    gate: &G,
+) -> Result<Summary, NoMemory>
+    requires { IsInRanges making }
+    ensures { IfOk result (λ summary. IsMadeSummary making summary) }
+{
+    let net = make_network(alloc, making.seed, making.routers, making.links)?;
+    let net = Arc::new(alloc, net)?;
+    let tree = build_tree(alloc, rt, &net, making.workers, gate)?;
+    let ladder = Ladder::make(alloc, &tree)?;
+    Ok(sum_up(&tree, &ladder))
+}
+
+/// The command `make`: the summary of the network that is asked for is put.
+fn make<R: Threads + Wait + Sync, K: Sink, G: Gate + Sync>(
+    alloc: Global,
+    rt: &R,
+    making: Making,
+    sink: &mut K,
+    gate: &G,
+) -> Outcome
+    requires { IsInRanges making }
+    ensures ends { MakeEnds making result.status (K.written sink.old) (K.written sink.new) }
+    ensures completes { (Rose (K.write_faults sink.old) (K.write_faults sink.new) → ⊥)
+        → (result.status ≡ Status.Done) ⊎ (result.status ≡ Status.NoMemory) }
+    ensures good_words { result.status ≢ Status.BadWords }
+    ensures no_read { is_read_fault result.status ≡ false }
+    ensures untouched { result.status ≡ Status.NoMemory → sink.new ≡ sink.old }
+    ensures no_record { views_of result.records.items ≡ [] }
+    ensures write_cause { CountsOne (K.write_faults sink.old) (K.write_faults sink.new)
+        (is_write_fault result.status) }
+    ensures beside_sink { K.beside_sink sink.new ≡ K.beside_sink sink.old }
+{
+    let Ok(summary) = made_summary(alloc, rt, making, gate) else {
+        return without_records(alloc, Status::NoMemory);
+    };
+    match write_summary(&summary, sink) {
+        Ok(()) => without_records(alloc, Status::Done),
+        Err(_) => without_records(alloc, Status::WriteFault),
+    }
+}
+
 /// Runs the command that the words name, over the source and the sink.
 ///
 /// `plan`, with the option `--workers`, is a session that reads request lines to the end of the input or to BYE,
@@ -195,10 +244,16 @@ fn check_text<S: Source, K: Sink>(alloc: Global, source: &mut S, sink: &mut K) -
 /// `check` reads a certificate, and puts one line: that it is accepted, or its first fault. The contract says that
 /// this is the verdict on the bytes that were taken (`verdict_on` in `certifier/specs/Certificates.antt`).
 ///
-/// Of `plan`, `NoMemory` comes only before the first read, and of `check` only before the put. A run takes at most
-/// [`MOST_BYTES`](line_reader::MOST_BYTES) from its source. `plan` keeps at most
-/// [`MOST_RECORDS`](tree_versions::MOST_RECORDS) records of up to about 400 kB each, and some 630 kB beside, most of
-/// it for a flow; while a tree is built, it takes up to 450 kB for each worker. `check` keeps less than 2 MB.
+/// `make`, with the options `--seed`, `--routers` and `--links`, and `--workers`, reads nothing, and puts three lines:
+/// the summary of the network that the three numbers make. The contract says that the summary is that of this network
+/// (`IsSummaryOf` in `made_networks/specs/Summaries.antt`), of which there is
+/// [one](made_networks::laws::summary_is_one), whatever the workers did.
+///
+/// Of `plan`, `NoMemory` comes only before the first read, and of `check` and `make` only before the put. A run takes
+/// at most [`MOST_BYTES`](line_reader::MOST_BYTES) from its source. `plan` keeps at most
+/// [`MOST_RECORDS`](tree_versions::MOST_RECORDS) records of up to about 520 kB each, and some 630 kB beside, most of
+/// it for a flow; while a tree is built, it takes up to 450 kB for each worker. `check` keeps less than 2 MB. `make`
+/// keeps one network with its tree, and takes as much for each worker.
 pub fn run<R: Threads + Wait + Sync, S: Source, K: Sink, G: Gate + Sync>(
     alloc: Global,
     rt: &R,
@@ -216,7 +271,7 @@ pub fn run<R: Threads + Wait + Sync, S: Source, K: Sink, G: Gate + Sync>(
 
     ensures bad_words { (result.status ≡ Status.BadWords) ↔ (command_of (map string_bytes words.now) ≡ None) }
 
-    // Nothing was read or written where there is no command, and where `plan` had no memory.
+    // Nothing was read or written where there is no command, and where `plan` or `make` had no memory.
     ensures untouched { IsUntouched (command_of (map string_bytes words.now)) result.status
         → (source.new ≡ source.old) × (sink.new ≡ sink.old) }
 
@@ -244,5 +299,6 @@ pub fn run<R: Threads + Wait + Sync, S: Source, K: Sink, G: Gate + Sync>(
         None => without_records(alloc, Status::BadWords),
         Some(Command::Plan { workers }) => plan(alloc, rt, workers, source, sink, gate),
         Some(Command::Check) => check_text(alloc, source, sink),
+        Some(Command::Make(making)) => make(alloc, rt, making, sink, gate),
     }
 }

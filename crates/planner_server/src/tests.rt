@@ -149,6 +149,48 @@ fn a_certificate_is_accepted_and_a_spoilt_one_is_not(rt: HostRuntime) -> Result<
     Ok(())
 }
 
+/// Whether a made network of three routers, with two workers, ends so over a sink with this room, and writes this.
+fn makes<R: Threads + Wait + Sync + AllocGlobal>(
+    rt: &R,
+    room: usize,
+    status: Status,
+    text: &[u8],
+) -> Result<bool, Fail> {
+    let alloc = rt.alloc();
+    let words = vec![in alloc;
+        String::from_str(alloc, "make")?,
+        String::from_str(alloc, "--seed=7")?,
+        String::from_str(alloc, "--routers=3")?,
+        String::from_str(alloc, "--links=3")?,
+        String::from_str(alloc, "--workers=2")?,
+    ]?;
+    let mut peer = peer(alloc, 7, 0, room, 0)?;
+    let outcome = run(
+        alloc,
+        rt,
+        &words,
+        &mut peer.source,
+        &mut peer.sink,
+        &OpenGate,
+    );
+    Ok(outcome.status == status && outcome.records.is_empty() && peer.sink.written() == text)
+}
+
+#[test]
+fn a_made_network_is_summed_up_as_far_as_there_is_room(rt: HostRuntime) -> Result<(), Fail> {
+    let text = b"made routers 3 links 3\nleast 355\nsum 1098\n";
+    assert!(rt; makes(&rt, 100, Status::Done, text)?);
+    assert!(rt;
+        makes(
+            &rt,
+            30,
+            Status::WriteFault,
+            b"made routers 3 links 3\nleast 3"
+        )?
+    );
+    Ok(())
+}
+
 /// Holds router 1 back until router 2 has come.
 #[derive(Drop)]
 struct TwoAtOnce {

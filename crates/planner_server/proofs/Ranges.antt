@@ -1,0 +1,119 @@
+-- What words ask for is within the limits.
+use Rattle.std.proofs.Common.{◌≡◌, ℕ, ◌≤◌, List, [], ◌∷◌, Bool, true, false, Some, None, codes, refl, subst, arith}
+use Rattle.std.proofs.Common.{◌&&◌, nat_le, if◌then◌else◌}
+use Rattle.std.proofs.lemmas.Bool.{leb-true}
+use Rattle.std.specs.Prelude.{IfSome}
+use Rattle.std.specs.Option.{option_map}
+use Rattle.std.specs.Str.{bytes_eq}
+use Rattle.std.specs.declared.option.Option.{Option}
+use Rattle.planner_server.specs.Commands.{IsInRanges, check_of, command_of, make_of, making_by, making_of, needed}
+use Rattle.planner_server.specs.Commands.{number_or, plan_of}
+use Rattle.planner_server.specs.Options.{are_options, given_by, given_in, least_of, most_of, number_given, texts_of}
+use Rattle.planner_server.specs.declared.command.Command.{Command}
+use Rattle.planner_server.specs.declared.command.Command.TheVariants.{Plan, Check, Make}
+use Rattle.planner_server.specs.declared.command.Making.{Making}
+use Rattle.planner_server.specs.declared.options.Given.{Given}
+use Rattle.planner_server.specs.declared.options.Given.TheVariants.{Missing, Number, Wrong}
+use Rattle.planner_server.specs.declared.options.OptionName.{OptionName}
+use Rattle.planner_server.specs.declared.options.OptionName.TheVariants.{Workers, Seed, Routers, Links}
+use Rattle.text_forms.specs.Numbers.{number_in}
+
+-- A number is one that the option takes.
+pub record IsTaken (name : OptionName) (n : ℕ) : Type 0 where
+  pub least : least_of name ≤ n
+  pub most : n ≤ most_of name
+
+-- what is given to an option is a number that it takes, if a number
+number_given-taken : (name : OptionName) (number : Option ℕ) → IfSome (needed (number_given name number)) (IsTaken name)
+number_given-taken name None = tt
+number_given-taken name (Some n) = by_test (nat_le (least_of name) n) (nat_le n (most_of name)) refl refl
+  where
+    by_test : (low high : Bool) → nat_le (least_of name) n ≡ low → nat_le n (most_of name) ≡ high
+        → IfSome (needed (if low && high then Number n else Wrong)) (IsTaken name)
+    by_test true true low high = record {
+      least = leb-true (least_of name) n low;
+      most = leb-true n (most_of name) high;
+    }
+    by_test true false low high = tt
+    by_test false high low also = tt
+
+-- what texts give is so, too
+given_by-taken : (name : OptionName) (texts : List (List ℕ)) → IfSome (needed (given_by name texts)) (IsTaken name)
+given_by-taken name [] = tt
+given_by-taken name (text ∷ []) = number_given-taken name (number_in text)
+given_by-taken name (one ∷ two ∷ texts) = tt
+
+-- the usual number of workers is one that the option takes
+number_or-taken : (given : Given) → IfSome (needed given) (IsTaken Workers)
+    → IfSome (number_or 1 given) (IsTaken Workers)
+number_or-taken Missing taken = record { least = omega arith; most = omega arith }
+number_or-taken (Number n) taken = taken
+number_or-taken Wrong taken = tt
+
+-- four numbers that the options take are within the limits
+making_by-ranges : (seed routers links workers : Option ℕ) → IfSome seed (IsTaken Seed)
+    → IfSome routers (IsTaken Routers) → IfSome links (IsTaken Links) → IfSome workers (IsTaken Workers)
+    → IfSome (making_by seed routers links workers) IsInRanges
+making_by-ranges (Some seed) (Some routers) (Some links) (Some workers) one two three four = record {
+  most_seed = one.most;
+  two = two.least;
+  most_routers = two.most;
+  most_links = three.most;
+  some = four.least;
+  most_workers = four.most;
+}
+making_by-ranges None routers links workers one two three four = tt
+making_by-ranges (Some seed) None links workers one two three four = tt
+making_by-ranges (Some seed) (Some routers) None workers one two three four = tt
+making_by-ranges (Some seed) (Some routers) (Some links) None one two three four = tt
+
+-- so is what the options ask `make` for
+making_of-ranges : (options : List (List ℕ)) → IfSome (making_of options) IsInRanges
+making_of-ranges options = making_by-ranges _ _ _ _ (given_by-taken Seed (texts_of Seed options))
+    (given_by-taken Routers (texts_of Routers options)) (given_by-taken Links (texts_of Links options))
+    (number_or-taken (given_in Workers options) (given_by-taken Workers (texts_of Workers options)))
+
+-- What a command asks for is within the limits: for so many workers, and for such a network.
+abbrev pub AsksWithin : Command → Type 0
+AsksWithin (Plan workers) = IsTaken Workers workers
+AsksWithin Check = Unit {0}
+AsksWithin (Make making) = IsInRanges making
+
+-- what `plan`, `check` and `make` ask for by their options is within the limits
+plan_within : (are : Bool) (workers : Option ℕ) → IfSome workers (IsTaken Workers)
+    → IfSome (if are then option_map Plan workers else None) AsksWithin
+plan_within true (Some n) taken = taken
+plan_within true None taken = tt
+plan_within false workers taken = tt
+
+check_within : (options : List (List ℕ)) → IfSome (check_of options) AsksWithin
+check_within [] = tt
+check_within (option ∷ options) = tt
+
+make_within : (are : Bool) (making : Option Making) → IfSome making IsInRanges
+    → IfSome (if are then option_map Make making else None) AsksWithin
+make_within true (Some making) ranges = ranges
+make_within true None ranges = tt
+make_within false making ranges = tt
+
+command_of-within : (words : List (List ℕ)) → IfSome (command_of words) AsksWithin
+command_of-within [] = tt
+command_of-within (name ∷ options) =
+    by_name (bytes_eq name (codes "plan")) (bytes_eq name (codes "check")) (bytes_eq name (codes "make"))
+  where
+    workers : IfSome (number_or 1 (given_in Workers options)) (IsTaken Workers)
+    workers = number_or-taken (given_in Workers options) (given_by-taken Workers (texts_of Workers options))
+
+    by_name : (plan check make : Bool)
+        → IfSome (if plan then plan_of options else if check then check_of options else if make then make_of options
+        else None) AsksWithin
+    by_name true check make = plan_within (are_options (Workers ∷ []) options) _ workers
+    by_name false true make = check_within options
+    by_name false false true =
+        make_within (are_options (Seed ∷ Routers ∷ Links ∷ Workers ∷ []) options) _ (making_of-ranges options)
+    by_name false false false = tt
+
+-- what words ask for is within the limits
+pub command_within : (words : List (List ℕ)) (command : Command) → command_of words ≡ Some command → AsksWithin command
+command_within words command is =
+    subst (λ (told : Option Command). IfSome told AsksWithin) is (command_of-within words)
