@@ -28,6 +28,20 @@ faulty_output a_full_device_is_a_write_fault_of_a_check "$?"
 timeout -k 5 "$seconds" "$program" check <"$accepted/stdin" 2>"$room/stderr" >&-
 faulty_output a_closed_output_is_a_write_fault_of_a_check "$?"
 
+# (`make` reads nothing, so its input may be closed or a folder)
+seven=tests/cases/make_seven
+timeout -k 5 "$seconds" "$program" make --seed=7 --routers=3 --links=3 >"$room/stdout" 2>"$room/stderr" <&-
+judge make_reads_no_closed_input "$?" 0 "$seven/stdout"
+try make_reads_no_folder_as_standard_input 0 "$seven/stdout" tests make --seed=7 --routers=3 --links=3
+
+timeout -k 5 "$seconds" "$program" make --seed=7 --routers=3 --links=3 \
+    <"$room/nothing" >/dev/full 2>"$room/stderr"
+faulty_output a_full_device_is_a_write_fault_of_make "$?"
+
+timeout -k 5 "$seconds" "$program" make --seed=7 --routers=3 --links=3 \
+    <"$room/nothing" 2>"$room/stderr" >&-
+faulty_output a_closed_output_is_a_write_fault_of_make "$?"
+
 # (far more replies than a pipe holds)
 yes X | head -n 100000 >"$room/stdin"
 {

@@ -22,6 +22,19 @@ try_with_workers() {
     done
 }
 
+# try_make_with_workers NAME OUTPUT WORD..: a network that these words make. Whatever the number of workers, the
+# same is told of it.
+try_make_with_workers() {
+    made_name=$1 made_output=$2
+    shift 2
+    case "$*" in
+    *--workers=*) return ;;
+    esac
+    for workers in 1 2 8 16; do
+        try "$made_name, with $workers workers" 0 "$made_output" "$room/nothing" "$@" "--workers=$workers"
+    done
+}
+
 # run_session INPUT WORKERS: leaves what was written beside the input.
 run_session() {
     written=${1%.stdin}.$2.stdout
