@@ -25,10 +25,12 @@ words='CUT PATH WEAKEST'
 [ "$#" -gt 0 ] && words=$*
 rounds=5
 
-# Each network, by the name that bench/tree_networks.awk gives it, and its number of requests.
+# Each network, by the name that bench/tree_networks.awk gives it, its number of requests, and the first router of
+# them where that isn't drawn.
 networks='towns 500000
 grid 60000
-random_1024_8192 40000'
+random_1024_8192 40000
+narrow_chain 300000 r0'
 
 # shellcheck source=bench/measuring.sh
 . bench/measuring.sh
@@ -82,9 +84,9 @@ print_row() {
     rm "$room/many.ours" "$room/many.theirs" "$room/none.ours" "$room/none.theirs"
 }
 
-# time_word NETWORK WORD COUNT
+# time_word NETWORK WORD COUNT [FIRST]
 time_word() {
-    awk -v word="$2" -v count="$3" -f bench/requests.awk "$room/network" >"$room/many"
+    awk -v word="$2" -v count="$3" -v first="${4-}" -f bench/requests.awk "$room/network" >"$room/many"
     record many
     for output in null pipe; do
         take_turns "$output"
@@ -99,11 +101,13 @@ line='%-17s %-8s %-4s %7s | %10s %6s | %10s %6s | %6s %10s\n'
 # shellcheck disable=SC2059
 printf "$line$line" '' '' '' bytes ours '' 'in C' '' 'ours/C' '' \
     network request to a\ reply replies/s MB/s replies/s MB/s wall processors
-printf '%s\n' "$networks" | while read -r network count; do
+printf '%s\n' "$networks" | while read -r network count first; do
     awk -v kind="$network" -f bench/tree_networks.awk >"$room/network" || exit 1
     awk -v count=0 -f bench/requests.awk "$room/network" >"$room/none"
     record none
     for word in $words; do
-        time_word "$network" "$word" "$count"
+        if [ -z "$first" ] || [ "$word" = CUT ]; then
+            time_word "$network" "$word" "$count" "$first"
+        fi
     done
 done

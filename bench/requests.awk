@@ -1,6 +1,7 @@
 # Writes a session that loads the network on its input, without LOAD and with END, and makes so many
-# requests of one word, each for two different routers that are drawn, where the word takes any.
-# usage: awk -v word=WORD -v count=N -f requests.awk NETWORK
+# requests of one word, each for two different routers that are drawn, where the word takes any. With
+# FIRST each is for this router, the first of the network, and a drawn one.
+# usage: awk -v word=WORD -v count=N [-v first=FIRST] -f requests.awk NETWORK
 function draw() {
     state = state * 16807 % 2147483647
     return state
@@ -37,7 +38,7 @@ END {
             print word
             continue
         }
-        a = draw() % routers
+        a = first == "" ? draw() % routers : 0
         b = (a + 1 + draw() % (routers - 1)) % routers
         print word " " names[a] " " names[b]
     }

@@ -15,6 +15,7 @@
 #   grid                  32 rows of 32 routers, each linked to its neighbours
 #   star                  1,023 leaves about the first router
 #   chain                 1,024 routers in a row
+#   narrow_chain          the same, where each link is wider than the one before it
 #   chords                a ring of 1,024 routers, and 1,024 links that are drawn
 #   clusters              511 clusters of three routers in a row, each with one router in common with
 #                         the next, a short narrow way through it and a wider one of two links; of
@@ -175,10 +176,10 @@ function star() {
 }
 
 # Routers in a row.
-function chain() {
+function chain(widens) {
     routers(1024)
     for (i = 1; i < 1024; i++) {
-        join(i - 1, i, capacity())
+        join(i - 1, i, widens ? i : capacity())
     }
 }
 
@@ -250,7 +251,9 @@ BEGIN {
     } else if (kind == "star") {
         star()
     } else if (kind == "chain") {
-        chain()
+        chain(0)
+    } else if (kind == "narrow_chain") {
+        chain(1)
     } else if (kind == "chords") {
         chords()
     } else if (kind == "clusters") {
