@@ -28,3 +28,4 @@ pub mod Steps
 pub mod Summing
 pub mod Telling
 pub mod ToldFlows
+pub mod Wholes
