@@ -15,12 +15,13 @@ use Rattle.path_minimum.proofs.Running.{is_in-before, is_in-inside, is_in-behind
 abbrev pub side_of_child : TreeView → ℕ → Bool → RouterSet
 side_of_child tree c holds = if holds then below_in tree c else outside (below_in tree c)
 
--- whether a router is on it
+-- a router below c is on it where it is that of the routers below c
 side_of-below : (tree : TreeView) (c r : ℕ) (holds : Bool) → below_in tree c r ≡ true
     → side_of_child tree c holds r ≡ holds
 side_of-below tree c r true is = is
 side_of-below tree c r false is = ap not is
 
+-- and any other router where it is that of the others
 side_of-other : (tree : TreeView) (c r : ℕ) (holds : Bool) → below_in tree c r ≡ false
     → side_of_child tree c holds r ≡ not holds
 side_of-other tree c r true is = is

@@ -323,29 +323,43 @@ looked-jumps tree holds steps ends one other looked =
     (apart-jumps tree holds steps (steps + steps) ends looked.ends_are
     (λ e. looked.differ (looked.one_is.router_is ∙ e ∙ sym looked.other_is.router_is))))
 
+-- A jump from each of two ends, and the least edge that was passed with the first of them and with both.
+pub record Look : Type 0 where
+  pub one : Jump
+  pub other : Jump
+  pub middle : PathLeast
+  pub next : PathLeast
+
+-- Each of the two is the lesser one of that before it and the edge of its jump.
+pub record AreLesser (tree : TreeView) (least : PathLeast) (look : Look) : Type 0 where
+  pub middle : IsLesser look.middle least (edge_of tree look.one.child)
+  pub next : IsLesser look.next look.middle (edge_of tree look.other.child)
+
 -- both ends jump
-pub passed-both : (tree : TreeView) (holds : HoldsCutTree tree) (steps : ℕ) (ends : Ends) (one other : Jump)
-    (middle next : PathLeast) → AreLooked tree steps ends one other
-    → IsLesser middle ends.least (edge_of tree one.child) → IsLesser next middle (edge_of tree other.child)
+pub passed-both : (tree : TreeView) → HoldsCutTree tree → (steps : ℕ) (ends : Ends) (look : Look)
+    → AreLooked tree steps ends look.one look.other → AreLesser tree ends.least look
     → (a b : ℕ) → HasPassed tree a b ends
-    → HasPassed tree a b (record { x = one.router; y = other.router; least = next })
-passed-both tree holds steps ends one other middle next looked lesser least a b before =
+    → HasPassed tree a b (record { x = look.one.router; y = look.other.router; least = look.next })
+passed-both tree holds steps ends look looked lesser a b before =
+    let one = look.one in
+    let other = look.other in
     let jumps = looked-jumps tree holds steps ends one other looked in
     let x_is = looked.ends_are.x_is in
     let y_is = looked.ends_are.y_is in
     let deep = apart-deep tree holds (steps + steps) ends looked.ends_are in
-    let first : HasPassed tree a b (record { x = one.router; y = ends.y; least = middle }) =
-    passed-jump tree holds a b ends one.router one.child middle before
+    let first : HasPassed tree a b (record { x = one.router; y = ends.y; least = look.middle }) =
+    passed-jump tree holds a b ends one.router one.child look.middle before
     (jumped-apart tree holds ends one.router other.router one.child x_is y_is jumps
     (looked.one_is.least x_is (deep-not_root tree holds ends.x deep)))
-    lesser in
-    passed-turned tree holds a b (record { x = other.router; y = one.router; least = next })
-    (passed-jump tree holds a b (record { x = ends.y; y = one.router; least = middle }) other.router other.child next
-    (passed-turned tree holds a b (record { x = one.router; y = ends.y; least = middle }) first)
+    lesser.middle in
+    passed-turned tree holds a b (record { x = other.router; y = one.router; least = look.next })
+    (passed-jump tree holds a b (record { x = ends.y; y = one.router; least = look.middle }) other.router other.child
+    look.next
+    (passed-turned tree holds a b (record { x = one.router; y = ends.y; least = look.middle }) first)
     (jumped-lower tree holds ends.y one.router other.router other.child y_is jumps.x_is jumps.y_is jumps.y_above
     (omega (arith, jumps.level))
     (looked.other_is.least y_is (deep-not_root tree holds ends.y (omega (arith, deep, looked.ends_are.level)))))
-    least)
+    lesser.next)
 
 -- and are then apart by half of what they were
 pub apart-after : (tree : TreeView) (holds : HoldsCutTree tree) (steps : ℕ) (ends : Ends) (one other : Jump)
@@ -410,32 +424,42 @@ meeting-parts tree holds ends one apart one_is c inside outside = elim (cases_Bo
         level-in tree holds c i i low low inner (self-in tree i low)
         (omega (arith, deep, no-higher tree holds c i low inner))
 
+-- The jumps of one step from both ends, which lead to one router.
+pub record AreLast (tree : TreeView) (ends : Ends) (look : Look) : Type 0 where
+  pub ends_are : AreApart tree 1 ends
+  pub one_is : IsJump tree 1 ends.x look.one
+  pub other_is : IsJump tree 1 ends.y look.other
+
 -- the last edges are passed
-pub passed-last : (tree : TreeView) (holds : HoldsCutTree tree) (ends : Ends) (one other : Jump)
-    (middle next : PathLeast) → AreApart tree 1 ends → IsJump tree 1 ends.x one → IsJump tree 1 ends.y other
-    → IsLesser middle ends.least (edge_of tree one.child) → IsLesser next middle (edge_of tree other.child)
-    → (a b : ℕ) → HasPassed tree a b ends
-    → HasPassed tree a b (record { x = other.router; y = one.router; least = next })
-passed-last tree holds ends one other middle next apart one_is other_is lesser least a b before =
+pub passed-last : (tree : TreeView) → HoldsCutTree tree → (ends : Ends) (look : Look) → AreLast tree ends look
+    → AreLesser tree ends.least look → (a b : ℕ) → HasPassed tree a b ends
+    → HasPassed tree a b (record { x = look.other.router; y = look.one.router; least = look.next })
+passed-last tree holds ends look last lesser a b before =
+    let one = look.one in
+    let other = look.other in
+    let apart = last.ends_are in
+    let one_is = last.one_is in
+    let other_is = last.other_is in
     let deep = apart-deep tree holds 1 ends apart in
     let up_x = jump-above tree holds 1 ends.x one apart.x_is one_is in
     let up_y = jump-above tree holds 1 ends.y other apart.y_is other_is in
     let same : one.router ≡ other.router = one_is.router_is ∙ apart.meet ∙ sym other_is.router_is in
-    let first : HasPassed tree a b (record { x = one.router; y = ends.y; least = middle }) =
-    passed-jump tree holds a b ends one.router one.child middle before
+    let first : HasPassed tree a b (record { x = one.router; y = ends.y; least = look.middle }) =
+    passed-jump tree holds a b ends one.router one.child look.middle before
     (record {
       z_is = up_x.0;
       above = up_x.1;
       parts = meeting-parts tree holds ends one apart one_is;
       least = one_is.least apart.x_is (deep-not_root tree holds ends.x deep);
     })
-    lesser in
-    passed-jump tree holds a b (record { x = ends.y; y = one.router; least = middle }) other.router other.child next
-    (passed-turned tree holds a b (record { x = one.router; y = ends.y; least = middle }) first)
+    lesser.middle in
+    passed-jump tree holds a b (record { x = ends.y; y = one.router; least = look.middle }) other.router other.child
+    look.next
+    (passed-turned tree holds a b (record { x = one.router; y = ends.y; least = look.middle }) first)
     (jumped-lower tree holds ends.y one.router other.router other.child apart.y_is up_x.0 up_y.0 up_y.1
     (omega (arith, ap (depth_of tree) same))
     (other_is.least apart.y_is (deep-not_root tree holds ends.y (omega (arith, deep, apart.level)))))
-    least
+    lesser.next
 
 -- ---- the two ends at first
 

@@ -1,5 +1,5 @@
--- What one step up from its deeper end does to a path.
-use Rattle.std.proofs.Common.{◌≢◌, ℕ, ◌≤◌, sym, ◌∙◌, refl}
+-- The path between two routers, turned round, empty, and at its deeper end.
+use Rattle.std.proofs.Common.{◌≢◌, ℕ, ◌≤◌, sym, ◌∙◌}
 use Rattle.std.proofs.lemmas.Bool.{false≢true}
 use Rattle.cut_model.specs.Net.{Net}
 use Rattle.cut_model.specs.Terminals.{IsTerminal}
@@ -17,12 +17,6 @@ on_path-turned net t a b c on_path = record {
   terminal = on_path.terminal;
   parting = differ_comm (tree_below net t c b) (tree_below net t c a) ∙ on_path.parting;
 }
-
--- the root is on no path, since both ends are below it
-pub on_path-not_root : (net : Net) (t : Tree net) (a b c : ℕ) → IsTerminal net a → IsTerminal net b
-    → IsOnPath net t.up a b c → c ≢ t.root
-on_path-not_root net t a b c a_is b_is on_path e =
-    false≢true (sym (rw (e, t.meets a a_is, t.meets b b_is) refl) ∙ on_path.parting)
 
 -- of two terminals that differ, the deeper one isn't the root
 pub low-not_root : (net : Net) (t : Tree net) (a b : ℕ) → IsTerminal net b → t.depth b ≤ t.depth a → a ≢ b

@@ -9,7 +9,7 @@ use Rattle.cut_model.specs.Cuts.{RouterSet, differ}
 use Rattle.cut_model.specs.Terminals.{IsTerminal}
 use Rattle.tree_state.specs.Tables.{Table, way_up, below}
 use Rattle.tree_state.specs.Views.{TreeView, up_of, HoldsCutTree}
-use Rattle.tree_state.proofs.Trees.{Tree, tree_below, tree_below_is, tree_below-self, tree_below-high, tree_below-root}
+use Rattle.tree_state.proofs.Trees.{Tree, tree_below, tree_below_is, tree_below-self, tree_below-high}
 use Rattle.path_minimum.specs.Depths.{depth_of}
 use Rattle.path_minimum.specs.Paths.{IsOnPathAbove}
 use Rattle.path_minimum.specs.Walks.{way_between, IsMeeting}
@@ -43,13 +43,6 @@ pub below-self : (net : Net) (t : Tree net) (c : ℕ) → IsTerminal net c → t
 below-self net t c c_is = elim (cases_eq c t.root) [
   | inl e ↦ subst (λ (r : ℕ). tree_below net t r c ≡ true) (sym e) (t.meets c c_is)
   | inr not_root ↦ tree_below-self net t c not_root c_is
-]
-
--- the root is below itself alone
-pub below-root : (net : Net) (t : Tree net) (c : ℕ) → tree_below net t c t.root ≡ true → c ≡ t.root
-below-root net t c inside = elim (cases_eq c t.root) [
-  | inl e ↦ e
-  | inr not_root ↦ absurd (false≢true (sym (tree_below-root net t c not_root) ∙ inside))
 ]
 
 -- what has the router above a terminal below it has the terminal below it

@@ -12,6 +12,9 @@ use tree_state::Finished;
 
 /// The depth of each router. It takes time proportional to the number of routers: each way up is walked
 /// as far as the first router whose depth is known.
+///
+/// # Errors
+/// [`NoMemory`] where the list can't be had.
 pub(crate) fn depths(alloc: Global, finished: &Finished) -> Result<Vec<u32>, NoMemory>
     ensures { IfOk result (λ depths. AreDepthsOf finished.now.tree depths.items) }
 {

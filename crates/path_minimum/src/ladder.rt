@@ -47,11 +47,17 @@ impl Model for Ladder {
 }
 
 impl Ladder {
-    /// The ladder of a tree. It takes time proportional to the number of routers times the number of
-    /// levels, of which ten are enough for the largest network.
+    /// The ladder of a tree. It takes time at most proportional to the square of the number of routers: most
+    /// of it goes into the walk of a tree that is one long way with its numbers running up it. The rest is
+    /// proportional to the number of routers times the number of levels, of which ten are enough for the
+    /// largest network.
+    ///
+    /// For the tree in which 1 hangs from 0 and 2 from 1, it notes the depths 0, 1 and 2 and rungs of one
+    /// and of two steps.
     ///
     /// # Errors
-    /// [`NoMemory`] where its memory can't be had.
+    /// [`NoMemory`] where its memory can't be had: some 100 KB for the largest network, and 8 KB more while
+    /// it is made.
     pub fn make(alloc: Global, finished: &Finished) -> Result<Ladder, NoMemory>
         ensures { IfOk result (λ ladder. IsLadderOf finished.now.tree ladder) }
     {

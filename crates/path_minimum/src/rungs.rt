@@ -37,6 +37,9 @@ impl Model for Rung {
 
 impl Rung {
     /// The rung of single steps.
+    ///
+    /// # Errors
+    /// [`NoMemory`] where its jumps can't be had.
     fn single(alloc: Global, finished: &Finished) -> Result<Rung, NoMemory>
         ensures rung { IfOk result (λ rung. IsRungOf finished.now.tree rung) }
         ensures steps { IfOk result (λ rung. rung.steps ≡ 1) }
@@ -53,6 +56,9 @@ impl Rung {
     }
 
     /// The rung of twice as many steps: from each router two jumps, one behind the other.
+    ///
+    /// # Errors
+    /// [`NoMemory`] where its jumps can't be had.
     fn doubled(&self, alloc: Global, finished: &Finished) -> Result<Rung, NoMemory>
         requires tree { HoldsCutTree finished.now.tree }
         requires rung { IsRungOf finished.now.tree self.now }
@@ -128,6 +134,9 @@ fn push_doubled(finished: &Finished, jumps: &[Jump], doubled: &mut Vec<Jump>)
 }
 
 /// The rung behind these: that of twice the steps of the last.
+///
+/// # Errors
+/// [`NoMemory`] where its jumps can't be had.
 fn next_rung(alloc: Global, finished: &Finished, rungs: &[Rung]) -> Result<Rung, NoMemory>
     requires tree { HoldsCutTree finished.now.tree }
     requires rungs { AreRungs finished.now.tree rungs.now }
@@ -143,6 +152,9 @@ fn next_rung(alloc: Global, finished: &Finished, rungs: &[Rung]) -> Result<Rung,
 }
 
 /// The rungs of 1, 2, 4 and so on steps, so many that twice the steps of the last are as many as the routers.
+///
+/// # Errors
+/// [`NoMemory`] where one of them can't be had.
 pub(crate) fn make_rungs(alloc: Global, finished: &Finished) -> Result<Vec<Rung>, NoMemory>
     ensures { IfOk result (λ rungs. AreRungsOf finished.now.tree rungs.items) }
 {

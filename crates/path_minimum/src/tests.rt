@@ -109,6 +109,8 @@ fn answers_from_a_row_of_six(rt: HostRuntime) -> Result<(), Fail> {
     assert!(&rt; tree.net().routers() == 6);
     assert_eq!(rt; side_holding(&tree, 3, 5).count(), 2);
     assert_eq!(rt; side_holding(&tree, 3, 0).count(), 4);
+    assert_eq!(rt; side_by_ladder(&ladder, &tree, 3, 5).count(), 2);
+    assert_eq!(rt; side_by_ladder(&ladder, &tree, 3, 0).count(), 4);
     let Some(weakest) = ladder.weakest(&tree) else {
         return Err("no weakest edge".into());
     };

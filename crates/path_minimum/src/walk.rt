@@ -48,6 +48,9 @@ struct Draft {
 
 impl Draft {
     /// The root alone.
+    ///
+    /// # Errors
+    /// [`NoMemory`] where the lists can't be had.
     fn begin(alloc: Global, finished: &Finished) -> Result<Draft, NoMemory>
         ensures { IfOk result (λ draft. IsDraftOf finished.now.tree draft) }
     {
@@ -96,6 +99,9 @@ impl Draft {
     }
 
     /// Gives a router the place right behind the one above it.
+    ///
+    /// # Errors
+    /// [`NoMemory`] where the place can't be had; the draft is of no use then.
     fn put(&mut self, finished: &Finished, router: u32) -> Result<(), NoMemory>
         requires tree { HoldsCutTree finished.now.tree }
         requires draft { IsDraftOf finished.now.tree self.old }
@@ -114,6 +120,9 @@ impl Draft {
     }
 
     /// Gives a router a place, after those on its way up that have none.
+    ///
+    /// # Errors
+    /// [`NoMemory`] where one of the places can't be had; the draft is of no use then.
     fn place(&mut self, finished: &Finished, router: u32) -> Result<(), NoMemory>
         requires tree { HoldsCutTree finished.now.tree }
         requires draft { IsDraftOf finished.now.tree self.old }
@@ -131,7 +140,11 @@ impl Draft {
 }
 
 /// The routers in the order of a walk. For a router that comes in, those behind its place move on, and the one
-/// above it is looked for from where it stood last.
+/// above it is looked for from where it stood last. That takes time at most proportional to the square of
+/// the number of routers.
+///
+/// # Errors
+/// [`NoMemory`] where the lists can't be had.
 fn walk_order(alloc: Global, finished: &Finished) -> Result<Vec<u32>, NoMemory>
     ensures { IfOk result (λ order. IsPreorder finished.now.tree order.items) }
 {
@@ -179,6 +192,9 @@ fn find_stretches(depths: &[u32], order: &[u32], stretches: &mut [Stretch])
 }
 
 /// The stretches of the routers of a walk.
+///
+/// # Errors
+/// [`NoMemory`] where the list can't be had.
 fn stretches(alloc: Global, depths: &[u32], order: &[u32]) -> Result<Vec<Stretch>, NoMemory>
     requires few { length order.now ≤ MOST_ROUTERS }
     requires depths { AreWithin (length depths.now) order.now }
@@ -193,6 +209,9 @@ fn stretches(alloc: Global, depths: &[u32], order: &[u32]) -> Result<Vec<Stretch
 }
 
 /// The walk through a tree, with the stretches of its routers.
+///
+/// # Errors
+/// [`NoMemory`] where its lists can't be had.
 pub(crate) fn make_walk(
     alloc: Global,
     finished: &Finished,

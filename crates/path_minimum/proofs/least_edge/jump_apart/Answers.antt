@@ -3,7 +3,7 @@ use Rattle.cut_model.proofs.Terminals.{terminal-lt}
 use Rattle.path_minimum.specs.Jumps.{IsJump}
 use Rattle.path_minimum.specs.Walks.{IsLesser, edge_of}
 use Rattle.path_minimum.proofs.Jumping.{looked-jump}
-use Rattle.path_minimum.proofs.Passing.{AreLooked, passed-both, apart-after, apart-near}
+use Rattle.path_minimum.proofs.Passing.{AreLooked, Look, passed-both, apart-after, apart-near}
 use Rattle.path_minimum.proofs.least_edge.jump_apart.Goals as goal
 
 pub look-one-requires : goal.look-one-requires
@@ -55,12 +55,18 @@ returns-clause-passed g c a b before =
           (terminal-lt tree.net c.args.ends.y c.requires.ends.y_is) c.look-other.ensures.jump;
       differ = c.if-one-other.false;
     } in
-    let lesser : IsLesser c.lesser-least.result c.args.ends.least (edge_of tree c.look-one.result.child) =
+    let look : Look = record {
+      one = c.look-one.result;
+      other = c.look-other.result;
+      middle = c.lesser-least.result;
+      next = c.lesser.result;
+    } in
+    let middle : IsLesser c.lesser-least.result c.args.ends.least (edge_of tree c.look-one.result.child) =
     rw c.edge_above.ensures at c.lesser-least.ensures in
-    let least : IsLesser c.lesser.result c.lesser-least.result (edge_of tree c.look-other.result.child) =
+    let next : IsLesser c.lesser.result c.lesser-least.result (edge_of tree c.look-other.result.child) =
     rw c.edge_above-2.ensures at c.lesser.ensures in
-    passed-both tree c.requires.tree c.args.rung.now.steps c.args.ends c.look-one.result c.look-other.result
-    c.lesser-least.result c.lesser.result looked lesser least a b before
+    passed-both tree c.requires.tree c.args.rung.now.steps c.args.ends look looked
+    (record { middle = middle; next = next }) a b before
 
 pub returns-clause-ends : goal.returns-clause-ends
 returns-clause-ends g c =

@@ -1,9 +1,8 @@
 use Rattle.std.proofs.Common.{◌∙◌, sym, arith}
 use Rattle.cut_model.proofs.Terminals.{terminal-lt}
 use Rattle.path_minimum.specs.Jumps.{IsJump}
-use Rattle.path_minimum.specs.Walks.{IsLesser, edge_of}
 use Rattle.path_minimum.proofs.Jumping.{looked-single, first-rung, single-rung}
-use Rattle.path_minimum.proofs.Passing.{passed-last, passed-all, apart-more}
+use Rattle.path_minimum.proofs.Passing.{AreLast, AreLesser, Look, passed-last, passed-all, apart-more}
 use Rattle.path_minimum.proofs.least_edge.meet.Goals as goal
 
 pub rung-single-requires : goal.rung-single-requires
@@ -61,14 +60,19 @@ returns-clause-edge g c a b before =
     let other_is : IsJump tree 1 c.args.ends.y c.look-other.result =
     looked-single tree rung c.args.ends.y c.look-other.result single
     (terminal-lt tree.net c.args.ends.y c.requires.ends.y_is) c.look-other.ensures.jump in
-    let lesser : IsLesser c.lesser-nearer.result c.args.ends.least (edge_of tree c.look-one.result.child) =
-    rw c.edge_above.ensures at c.lesser-nearer.ensures in
-    let least : IsLesser c.lesser.result c.lesser-nearer.result (edge_of tree c.look-other.result.child) =
-    rw c.edge_above-2.ensures at c.lesser.ensures in
+    let look : Look = record {
+      one = c.look-one.result;
+      other = c.look-other.result;
+      middle = c.lesser-nearer.result;
+      next = c.lesser.result;
+    } in
+    let last : AreLast tree c.args.ends look =
+    record { ends_are = c.requires.ends; one_is = one_is; other_is = other_is } in
+    let lesser : AreLesser tree c.args.ends.least look =
+    record { middle = rw c.edge_above.ensures at c.lesser-nearer.ensures; next = rw c.edge_above-2.ensures at c.lesser.ensures } in
     passed-all tree c.requires.tree a b
     (record { x = c.look-other.result.router; y = c.look-one.result.router; least = c.lesser.result })
-    (passed-last tree c.requires.tree c.args.ends c.look-one.result c.look-other.result c.lesser-nearer.result
-    c.lesser.result c.requires.ends one_is other_is lesser least a b before)
+    (passed-last tree c.requires.tree c.args.ends look last lesser a b before)
     (other_is.router_is ∙ sym c.requires.ends.meet ∙ sym one_is.router_is)
 
 pub returns-clause-is : goal.returns-clause-is
@@ -83,9 +87,14 @@ returns-clause-is g c a b before =
     let other_is : IsJump tree 1 c.args.ends.y c.look-other.result =
     looked-single tree rung c.args.ends.y c.look-other.result single
     (terminal-lt tree.net c.args.ends.y c.requires.ends.y_is) c.look-other.ensures.jump in
-    let lesser : IsLesser c.lesser-nearer.result c.args.ends.least (edge_of tree c.look-one.result.child) =
-    rw c.edge_above.ensures at c.lesser-nearer.ensures in
-    let least : IsLesser c.lesser.result c.lesser-nearer.result (edge_of tree c.look-other.result.child) =
-    rw c.edge_above-2.ensures at c.lesser.ensures in
-    (passed-last tree c.requires.tree c.args.ends c.look-one.result c.look-other.result c.lesser-nearer.result
-    c.lesser.result c.requires.ends one_is other_is lesser least a b before).edge
+    let look : Look = record {
+      one = c.look-one.result;
+      other = c.look-other.result;
+      middle = c.lesser-nearer.result;
+      next = c.lesser.result;
+    } in
+    let last : AreLast tree c.args.ends look =
+    record { ends_are = c.requires.ends; one_is = one_is; other_is = other_is } in
+    let lesser : AreLesser tree c.args.ends.least look =
+    record { middle = rw c.edge_above.ensures at c.lesser-nearer.ensures; next = rw c.edge_above-2.ensures at c.lesser.ensures } in
+    (passed-last tree c.requires.tree c.args.ends look last lesser a b before).edge
