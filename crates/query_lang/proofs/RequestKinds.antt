@@ -33,30 +33,6 @@ abbrev pub IsOther : Result Request RequestFault → Type 0
 IsOther (Ok request) = IsTrue (needs_record request)
 IsOther (Err fault) = Unit {0}
 
--- A request that has a report needs a record.
-pub report-needs : (version : ℕ) (sheet : SheetView) (tree : TreeView) (request : Request) (text : List ℕ)
-    → IsReport version sheet tree request text → IsTrue (needs_record request)
-report-needs version sheet tree Nothing text report = absurd report
-report-needs version sheet tree Load text report = absurd report
-report-needs version sheet tree Bye text report = absurd report
-report-needs version sheet tree request text report = refl
-
--- And it is one that a record alone settles.
-pub report-is : (version : ℕ) (sheet : SheetView) (tree : TreeView) (request : Request) (text : List ℕ)
-    → IsReport version sheet tree request text → IsTrue (is_report request)
-report-is version sheet tree Nothing text report = absurd report
-report-is version sheet tree Load text report = absurd report
-report-is version sheet tree Bye text report = absurd report
-report-is version sheet tree (Witness a b) text report = absurd report
-report-is version sheet tree Certificate text report = absurd report
-report-is version sheet tree request text report = refl
-
--- Such a request needs a record.
-pub is_report-needs : (request : Request) → IsTrue (is_report request) → IsTrue (needs_record request)
-is_report-needs (Witness a b) report = refl
-is_report-needs Certificate report = refl
-is_report-needs request report = report
-
 -- Such an answer is right for a line that is none of the three.
 pub kind_of_other : (answer : Result Request RequestFault) (load bye : Bool) → IsOther answer → load ≡ false
     → bye ≡ false → IsKind answer false load bye

@@ -12,10 +12,13 @@ abbrev pub AreOthers : List Bool → Bool → ℕ → ℕ → Type 0
 AreOthers side inside from to =
     (r : ℕ) → from ≤ r → r < to → r < length side → slice_index_or side r false ≡ not inside
 
--- The routers of a run are in the side, and none before it from a router on.
+-- The whole first run from a router on: its routers are in the side, none before it is, and the one behind it
+-- isn't. It has a router, but where none is left.
 pub record IsRun (side : List Bool) (from : ℕ) (run : Run) : Type 0 where
   pub behind : from ≤ run.begin
   pub order : run.begin ≤ run.end
   pub within : run.end ≤ length side
   pub out : AreOthers side true from run.begin
   pub held : AreOthers side false run.begin run.end
+  pub some : run.begin < length side → run.begin < run.end
+  pub stops : run.end < length side → slice_index_or side run.end false ≡ false
