@@ -144,16 +144,6 @@ module _ (search : Search) (back : Bool) (reached : Reached) (old : IsLabelled s
     fresh = λ k late short. let last : k ≡ reached.known = omega arith in rw last last-label;
   }
 
--- Labels and a queue that stay grow by nothing.
-pub grows-none : (reached : Reached) (next : ℕ) → Grows reached reached next
-grows-none reached next = record {
-  more = omega arith;
-  size = refl;
-  same = λ k below. refl;
-  kept = λ r some. refl;
-  fresh = λ k late short. absurd (omega (arith, late, short));
-}
-
 -- What grows twice grows.
 pub grows-more : {before between after : Reached} {next : ℕ} → 0 < next → Grows before between next →
     Grows between after next → Grows before after next
@@ -169,14 +159,6 @@ grows-more {before = before} {between = between} {after = after} {next = next} s
     | inr later ↦ second.fresh k later short
   ];
 }
-
--- A router without a mark gets a label: no router has both.
-pub apart-grown : (label marks : List ℕ) (w next : ℕ) → AreApart label marks → get_or marks w 0 ≡ 0 →
-    AreApart (set label w next) marks
-apart-grown label marks w next apart none r some = elim (cases_eq r w) [
-  | inl same ↦ rw same none
-  | inr other ↦ apart r (rw (get_or-set_other label w r next 0 other) at some)
-]
 
 -- No router has both a mark and a label.
 pub apart-turned : (label marks : List ℕ) → AreApart label marks → AreApart marks label

@@ -126,7 +126,3 @@ arc-along search true u v arc =
 -- Where at least so much is left, an arc is open.
 pub open-left : (threshold x : ℕ) (z : ℤ) → pos x ≡ z → threshold ≤ x → pos threshold ≤ℤ z
 open-left threshold x z is enough = omega (arith, ints, is, enough)
-
--- Where an arc is open, at least so much is left.
-pub left-open : (threshold x : ℕ) (z : ℤ) → pos x ≡ z → pos threshold ≤ℤ z → threshold ≤ x
-left-open threshold x z is is_open = omega (arith, ints, is, is_open)

@@ -98,7 +98,7 @@ fn send_over<L: Ledger>(
         (tally_of cursor.old (steps.old + 2)) (tally_of cursor.new steps.new) }
 {
     let place = graph.place(at);
-    label.is_low(t);
+    label.keeps_low(t);
     if !label.is(place.head, next) {
         return 0;
     }

@@ -83,7 +83,7 @@ impl Labels {
 
     /// No label is above [`MOST_LABEL`]. A law: a call does nothing.
     #[inline(always)]
-    pub fn is_low(&self, router: u32)
+    pub fn keeps_low(&self, router: u32)
         requires { router < length self.now }
         ensures { slice_index self.now router ≤ MOST_LABEL }
     {

@@ -330,8 +330,9 @@ fn begin_both(graph: &Residual, cursor: &mut [u32], near: &[u32], far: &[u32])
 ///
 /// Where they join, `label` has the levels, and the cursor of each router with a level is at its first
 /// place. Where they don't, `ahead` begins with the routers that s reaches. `marks` has the labels of
-/// the ball about t, and `behind` its routers: what the two hold afterwards means nothing. No list is
-/// written whole for a search among few routers, so it costs little in a large network.
+/// the ball about t, and `behind` its routers: what the two hold afterwards means nothing. For a search
+/// among few routers no list is written whole, but for the labels once in a million searches, so it costs
+/// little in a large network.
 pub fn search<L: Ledger>(
     graph: &Residual,
     s: u32,

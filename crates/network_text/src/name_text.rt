@@ -18,7 +18,8 @@ pub(crate) struct NameText {
 }
 
 impl NameText {
-    /// The text of these names, in their order. It takes room for 37 bytes a name, at once.
+    /// The text of these names, in their order. It takes room for 37 bytes a name and 4 for
+    /// the last place, at once.
     ///
     /// # Errors
     /// [`NoMemory`] where memory was wanted.

@@ -3,7 +3,7 @@ use Rattle.std.proofs.Common.{ℕ, ◌-◌, ◌<◌, ◌≤◌, List, length, ge
 use Rattle.std.proofs.lemmas.List.{length-map}
 use Rattle.dinic_flow.specs.declared.labels.TheConstants.{MOST_LABEL}
 use Rattle.dinic_flow.proofs.Bases.{labels_above-most}
-use Rattle.dinic_flow.proofs.labels.Labels.is_low.Goals as goal
+use Rattle.dinic_flow.proofs.labels.Labels.keeps_low.Goals as goal
 
 pub returns : goal.returns
 returns c =
