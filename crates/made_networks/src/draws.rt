@@ -8,7 +8,7 @@ use std::marker::Model;
 /// The greatest seed.
 pub const MOST_SEED: u32 = 65_535;
 
-/// What divides a draw so that it leaves the next one.
+/// What a draw is a remainder of: each is less than this.
 const MODULUS: u32 = 65_537;
 
 /// How many capacities a link may get, from 1 on.

@@ -1,4 +1,4 @@
-//! Networks that a number makes, and what a network is summed up by.
+//! Networks that three numbers make, and what a network is summed up by.
 //!
 //! `make_network` gives the one network that a seed and two sizes make, draw by draw: the same on every
 //! machine. `sum_up` tells of a finished tree two numbers that its network alone decides, whatever the order
