@@ -154,6 +154,13 @@ IsUntouched (Some (Plan workers)) status = status ≡ NoMemory
 IsUntouched (Some Check) status = ⊥
 IsUntouched (Some (Make making)) status = status ≡ NoMemory
 
+-- A run reads nothing: where there is no command, and of `make`.
+abbrev pub ReadsNothing : Option Command → Type 0
+ReadsNothing None = Unit {0}
+ReadsNothing (Some (Plan workers)) = ⊥
+ReadsNothing (Some Check) = ⊥
+ReadsNothing (Some (Make making)) = Unit {0}
+
 -- the command was run, ended so, and met and left this
 abbrev pub Ran : Command → Status → RunView → Type 0
 Ran (Plan workers) status run = PlanRan status run

@@ -4,7 +4,7 @@ ghost use Rattle.std.specs.Prelude.{length, map, IfOk, IfSome};
 ghost use Rattle.std.specs.String.{string_bytes};
 ghost use Rattle.job_queue.specs.declared.jobs.TheConstants.{MOST_WORKERS};
 ghost use Rattle.planner_server.specs.Commands.{IsInRanges, command_of};
-ghost use Rattle.planner_server.specs.Runs.{CheckRan, IsMadeSummary, IsUntouched, MakeEnds, PlanRan, Ran, ports};
+ghost use Rattle.planner_server.specs.Runs.{CheckRan, IsMadeSummary, IsUntouched, MakeEnds, PlanRan, Ran, ReadsNothing, ports};
 ghost use Rattle.planner_server.specs.Statuses.{is_read_fault, is_write_fault, status_of};
 ghost use Rattle.tree_versions.specs.Records.{AreCutTrees, AreFinished};
 ghost use Rattle.tree_versions.specs.Solo.{views_of};
@@ -253,7 +253,7 @@ fn make<R: Threads + Wait + Sync, K: Sink, G: Gate + Sync>(
 /// at most [`MOST_BYTES`](line_reader::MOST_BYTES) from its source. `plan` keeps at most
 /// [`MOST_RECORDS`](tree_versions::MOST_RECORDS) records of up to about 520 kB each, and some 630 kB beside, most of
 /// it for a flow; while a tree is built, it takes up to 450 kB for each worker. `check` keeps less than 2 MB. `make`
-/// keeps one network with its tree, and takes as much for each worker.
+/// keeps one network with its tree, and takes up to 450 kB for each worker.
 pub fn run<R: Threads + Wait + Sync, S: Source, K: Sink, G: Gate + Sync>(
     alloc: Global,
     rt: &R,
@@ -274,6 +274,9 @@ pub fn run<R: Threads + Wait + Sync, S: Source, K: Sink, G: Gate + Sync>(
     // Nothing was read or written where there is no command, and where `plan` or `make` had no memory.
     ensures untouched { IsUntouched (command_of (map string_bytes words.now)) result.status
         → (source.new ≡ source.old) × (sink.new ≡ sink.old) }
+
+    // Nothing was read at all where there is no command, and by `make`.
+    ensures unread { ReadsNothing (command_of (map string_bytes words.now)) → source.new ≡ source.old }
 
     ensures no_record { (result.status ≡ Status.BadWords) ⊎ (result.status ≡ Status.NoMemory)
         → views_of result.records.items ≡ [] }

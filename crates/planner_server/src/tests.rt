@@ -29,6 +29,9 @@ const TWO_CUTS: &[u8] = b"LOAD\nlink a b 5\nlink b c 3\nEND\nCUT a b\n";
 
 const TWO_CUTS_REPLIES: &[u8] = b"@1 LOADED routers 3 links 2\n@1 CUT 5 side a\n";
 
+/// The summary of the network with the links 2 to 2 of 613, 0 to 2 of 743 and 1 to 0 of 355.
+const MADE_SUMMARY: &[u8] = b"made routers 3 links 3\nleast 355\nsum 1098\n";
+
 /// What a second session gets, over the record of the first.
 const SECOND_REPLIES: &[u8] = b"@2 LOADED routers 2 links 1\n@2 CUT 5 side a\n@2 BYE\n";
 
@@ -149,7 +152,18 @@ fn a_certificate_is_accepted_and_a_spoilt_one_is_not(rt: HostRuntime) -> Result<
     Ok(())
 }
 
-/// Whether a made network of three routers, with two workers, ends so over a sink with this room, and writes this.
+/// The words for a made network of three routers, with two workers.
+fn made_words(alloc: Global) -> Result<Vec<String>, Fail> {
+    Ok(vec![in alloc;
+        String::from_str(alloc, "make")?,
+        String::from_str(alloc, "--seed=7")?,
+        String::from_str(alloc, "--routers=3")?,
+        String::from_str(alloc, "--links=3")?,
+        String::from_str(alloc, "--workers=2")?,
+    ]?)
+}
+
+/// Whether this network is summed up over a sink with this room so, and writes this.
 fn makes<R: Threads + Wait + Sync + AllocGlobal>(
     rt: &R,
     room: usize,
@@ -157,13 +171,7 @@ fn makes<R: Threads + Wait + Sync + AllocGlobal>(
     text: &[u8],
 ) -> Result<bool, Fail> {
     let alloc = rt.alloc();
-    let words = vec![in alloc;
-        String::from_str(alloc, "make")?,
-        String::from_str(alloc, "--seed=7")?,
-        String::from_str(alloc, "--routers=3")?,
-        String::from_str(alloc, "--links=3")?,
-        String::from_str(alloc, "--workers=2")?,
-    ]?;
+    let words = made_words(alloc)?;
     let mut peer = peer(alloc, 7, 0, room, 0)?;
     let outcome = run(
         alloc,
@@ -178,8 +186,7 @@ fn makes<R: Threads + Wait + Sync + AllocGlobal>(
 
 #[test]
 fn a_made_network_is_summed_up_as_far_as_there_is_room(rt: HostRuntime) -> Result<(), Fail> {
-    let text = b"made routers 3 links 3\nleast 355\nsum 1098\n";
-    assert!(rt; makes(&rt, 100, Status::Done, text)?);
+    assert!(rt; makes(&rt, 100, Status::Done, MADE_SUMMARY)?);
     assert!(rt;
         makes(
             &rt,
@@ -229,23 +236,32 @@ impl Gate for TwoAtOnce {
     }
 }
 
-#[test]
-fn as_many_workers_build_a_tree_as_the_words_ask_for(rt: HostRuntime) -> Result<(), Fail> {
+/// Whether in a run of these words over `TWO_CUTS`, which is done and writes this, two workers computed cuts at once.
+fn two_meet<R: Threads + Wait + Sync + AllocGlobal>(
+    rt: &R,
+    words: &[String],
+    text: &[u8],
+) -> Result<bool, Fail> {
     let alloc = rt.alloc();
     let gate = TwoAtOnce {
         twos: AtomicU64::new(0),
         failures: AtomicU64::new(0),
     };
+    let mut source = MemorySource::make(TWO_CUTS.to_vec(alloc)?, 99, vec![in alloc; 0]?);
+    let mut sink = MemorySink::make(alloc, 100, vec![in alloc; 0]?)?;
+    let outcome = run(alloc, rt, words, &mut source, &mut sink, &gate);
+    let met = gate.twos.load(Ordering::SeqCst) > 0 && gate.failures.load(Ordering::SeqCst) == 0;
+    Ok(met && outcome.status == Status::Done && sink.written() == text)
+}
+
+#[test]
+fn as_many_workers_build_a_tree_as_the_words_ask_for(rt: HostRuntime) -> Result<(), Fail> {
+    let alloc = rt.alloc();
     let words = vec![in alloc;
         String::from_str(alloc, "plan")?,
         String::from_str(alloc, "--workers=2")?,
     ]?;
-    let mut source = MemorySource::make(TWO_CUTS.to_vec(alloc)?, 99, vec![in alloc; 0]?);
-    let mut sink = MemorySink::make(alloc, 100, vec![in alloc; 0]?)?;
-    let outcome = run(alloc, &rt, &words, &mut source, &mut sink, &gate);
-    assert_eq!(rt; outcome.status, Status::Done);
-    assert_eq!(rt; sink.written(), TWO_CUTS_REPLIES);
-    assert!(rt; gate.twos.load(Ordering::SeqCst) > 0);
-    assert_eq!(rt; gate.failures.load(Ordering::SeqCst), 0);
+    assert!(rt; two_meet(&rt, &words, TWO_CUTS_REPLIES)?);
+    assert!(rt; two_meet(&rt, &made_words(alloc)?, MADE_SUMMARY)?);
     Ok(())
 }
