@@ -74,7 +74,8 @@ returns-clause-puts g c =
     (sym c.requires.same) at.ensures.place in
     let within = subst (λ (net : Net). at.result.line < block_size net) (sym c.requires.same) at.ensures.within in
     puts_in_block names tree layout at.result.block at.result.line c.args.place c.args.room.now
-    c.write_block_line.new.room (omega (arith, c.edge_count.ensures.value, c.from.ensures, c.if-at-from.false)) within is
+    c.write_block_line.new.room (omega (arith, c.edge_count.ensures.value, c.from.ensures, c.if-at-from.false)) within
+    is
     (subst (λ (child : ℕ). PutsLine g.K.Sink c.args.sink.now c.write_block_line.new.sink c.write_block_line.result
     (BlockLine (codes "edge") names tree child) at.result.line c.args.room.now c.write_block_line.new.room)
     c.child_at-child.ensures.value c.write_block_line.ensures.puts)

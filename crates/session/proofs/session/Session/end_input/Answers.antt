@@ -44,7 +44,8 @@ returns-then-self-clause-goes g c = λ from wire met.
     }) in
     let b = last_taken alone _ new w.open_text w.bytes c.line.result.now w.may refl c.take_line-self-inside.result
     (record { on = on; over = refl; count = c.if-not-last_line.ensures.taken }) w.why.met.0
-    (c.if-not-last_line.ensures.tells w.bytes w.may.rest) c.line.ensures.bytes (c.take_line-self-inside.ensures.taken w.open_text (w.may.text on)) in
+    (c.if-not-last_line.ensures.tells w.bytes w.may.rest) c.line.ensures.bytes
+    (c.take_line-self-inside.ensures.taken w.open_text (w.may.text on)) in
     began IsMet alone from _ w new idle b.answer IsClosed (record { met = w.why.met; closed = inl c.if-self.true })
 
 pub returns-else-is_idle-clause-goes : goal.returns-else-is_idle-clause-goes
@@ -62,7 +63,8 @@ returns-else-is_idle-clause-goes g c = λ from wire met.
     }) in
     let b = last_taken alone _ new w.open_text w.bytes c.line.result.now w.may refl c.take_line-self-inside.result
     (record { on = on; over = refl; count = c.if-not-last_line.ensures.taken }) w.why.met.0
-    (c.if-not-last_line.ensures.tells w.bytes w.may.rest) c.line.ensures.bytes (c.take_line-self-inside.ensures.taken w.open_text (w.may.text on)) in
+    (c.if-not-last_line.ensures.tells w.bytes w.may.rest) c.line.ensures.bytes
+    (c.take_line-self-inside.ensures.taken w.open_text (w.may.text on)) in
     let between = owed_between _ _ c.take_line-self-inside.ensures.between
     (c.is_idle.ensures.owed c.if-is_idle.false) in
     began IsMet alone from _ w new idle b.answer IsClosed (record {
@@ -95,7 +97,8 @@ returns-then-is_idle-clause-goes g c = λ from wire met.
     }) in
     let b = last_taken alone _ mid w.open_text w.bytes c.line.result.now w.may refl c.take_line-self-inside.result
     (record { on = on; over = refl; count = c.if-not-last_line.ensures.taken }) w.why.met.0
-    (c.if-not-last_line.ensures.tells w.bytes w.may.rest) c.line.ensures.bytes (c.take_line-self-inside.ensures.taken w.open_text (w.may.text on)) in
+    (c.if-not-last_line.ensures.tells w.bytes w.may.rest) c.line.ensures.bytes
+    (c.take_line-self-inside.ensures.taken w.open_text (w.may.text on)) in
     let v = began IsMet alone from _ w mid idle b.answer IsDry (record { met = w.why.met; none = b.none }) in
     let owing = subst (λ (a : Bool). Owing a mid.now.shelf new.now.shelf (items_from true v.open_text []) new.kept.work)
     c.take_line-self-inside.ensures.alone

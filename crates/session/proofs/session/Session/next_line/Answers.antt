@@ -14,7 +14,8 @@ returns-then-some-clause-goes g c = λ from wire gone.
     let idle = subst (λ (k : Kept). IsIdle k.work) (sym c.self.view_is) c.requires.idle in
     let b = next_taken (g.H.Shelf.alone c.args.shelf.now) _ _ w.open_text w.bytes c.line.result.now w.may refl
     c.take_line-self-inside.result (record { on = on; over = refl; count = c.if-some.ensures.taken })
-    (c.if-some.ensures.tells w.bytes w.may.rest) c.line.ensures.bytes (c.take_line-self-inside.ensures.taken w.open_text (w.may.text on)) in
+    (c.if-some.ensures.tells w.bytes w.may.rest) c.line.ensures.bytes
+    (c.take_line-self-inside.ensures.taken w.open_text (w.may.text on)) in
     subst (λ (x : Bool). NextGoes x (g.H.Shelf.alone c.args.shelf.now) from
     (here_at (shelved g.H.Shelf c.take_line-self-inside.new.shelf) wire (record {
       intake = c.take_line-self-inside.new.self.intake;
