@@ -2,7 +2,9 @@ pub mod Asides
 pub mod Beside
 pub mod Bytes
 pub mod Causes
+pub mod Doors
 pub mod Lazy
 pub mod LazyMemory
 pub mod Memory
+pub mod MemoryDoors
 pub mod Puts

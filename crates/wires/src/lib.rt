@@ -8,9 +8,11 @@
 #![tactic(auto)]
 
 mod counting;
+mod doors;
 mod faults;
 mod lazy;
 mod memory;
+mod memory_door;
 mod memory_lazy_peer;
 mod memory_peer;
 mod peers;
@@ -24,9 +26,11 @@ mod sure;
 mod tests;
 
 pub use counting::CountingSink;
+pub use doors::Door;
 pub use faults::Failed;
 pub use lazy::{Got, LazyPeer, Taken};
 pub use memory::{MemorySink, MemorySource};
+pub use memory_door::MemoryDoor;
 pub use memory_lazy_peer::MemoryLazyPeer;
 pub use memory_peer::MemoryPeer;
 pub use peers::{Pair, Peer};

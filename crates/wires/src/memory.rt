@@ -70,6 +70,20 @@ impl MemorySource {
             ended: false,
         }
     }
+
+    /// The bytes that are left, as `c` of `abc` behind a read of 2 bytes.
+    pub(crate) fn left(&self) -> &[u8]
+        ensures { result.now ≡ self.now.left }
+    {
+        &self.bytes[self.at..]
+    }
+
+    /// How many reads have failed.
+    pub(crate) fn faults(&self) -> u64
+        ensures { result ≡ self.now.faults }
+    {
+        self.faults
+    }
 }
 
 impl Source for MemorySource {
@@ -179,6 +193,13 @@ impl MemorySink {
         ensures { result.now ≡ self.now.bytes }
     {
         self.bytes.as_slice()
+    }
+
+    /// How many puts have failed.
+    pub(crate) fn faults(&self) -> u64
+        ensures { result ≡ self.now.faults }
+    {
+        self.faults
     }
 }
 
