@@ -8,3 +8,4 @@ pub mod LazyMemory
 pub mod Memory
 pub mod MemoryDoors
 pub mod Puts
+pub mod Tcp

@@ -18,10 +18,13 @@ mod memory_peer;
 mod peers;
 mod pieces;
 mod ready;
+mod retries;
 mod sinks;
 mod sources;
 mod standard;
 mod sure;
+mod tcp_door;
+mod tcp_peer;
 #[cfg(test)]
 mod tests;
 
@@ -40,3 +43,5 @@ pub use sinks::Sink;
 pub use sources::Source;
 pub use standard::{StdSink, StdSource};
 pub use sure::SureSource;
+pub use tcp_door::TcpDoor;
+pub use tcp_peer::TcpPeer;

@@ -3,6 +3,7 @@ ghost use Rattle.std.specs.Prelude.{◌≡◌, ℕ, ◌<◌, ◌≤◌, List, []
 ghost use Rattle.std.specs.Option.{ForSome};
 ghost use Rattle.wires.specs.Beside.{nothing_beside};
 
+use crate::retries::{read_once, write_whole};
 use crate::{Failed, Sink, Source};
 use std::io::{Read, Write};
 
@@ -43,7 +44,7 @@ impl<R: Read> Source for StdSource<R> {
         if self.ended {
             return Ok(0);
         }
-        match self.reader.read(into) {
+        match read_once(&mut self.reader, into) {
             Ok(count) => {
                 self.ended = count == 0 && !into.is_empty();
                 Ok(count)
@@ -82,15 +83,9 @@ impl<W: Write> Sink for StdSink<W> {
     ghost beside_sink = { λ _. nothing_beside };
 
     fn put(&mut self, bytes: &[u8]) -> Result<(), Failed> {
-        let mut done = 0usize;
-        while done < bytes.len() {
-            match self.writer.write(&bytes[done..]) {
-                Ok(count) if count > 0 => done += count,
-                _ => {
-                    self.faults = self.faults.saturating_add(1);
-                    return Err(Failed);
-                }
-            }
+        if write_whole(&mut self.writer, bytes).is_err() {
+            self.faults = self.faults.saturating_add(1);
+            return Err(Failed);
         }
         Ok(())
     }
