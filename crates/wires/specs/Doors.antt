@@ -41,14 +41,15 @@ EndsDoor (Ok (Some client)) before now = before ≡ false
 EndsDoor (Ok None) before now = now ≡ true
 EndsDoor (Err e) before now = ⊤
 
--- the clients that came back, with one more, where they are told
-abbrev pub with_served : {C : Type 0} → Beginning → C → Option (List (Beginning × C)) → Option (List (Beginning × C))
-with_served beginning client None = None
-with_served beginning client (Some served) = Some (served ++ (beginning, client) ∷ [])
+-- the clients that came back, and then these, where they are told
+abbrev pub with_visits : {C : Type 0} → List (Beginning × C) → Option (List (Beginning × C))
+    → Option (List (Beginning × C))
+with_visits visits None = None
+with_visits visits (Some served) = Some (served ++ visits)
 
 -- the client that is out came back: where those that came back are told, so is its beginning, and it is one more
 abbrev pub AddsServed : {C : Type 0} → Option (Option Beginning) → C → Option (List (Beginning × C))
     → Option (List (Beginning × C)) → Type 0
 AddsServed out client None now = now ≡ None
 AddsServed out client (Some served) now =
-    (beginning : Beginning) × (out ≡ Some (Some beginning)) × (now ≡ with_served beginning client (Some served))
+    (beginning : Beginning) × (out ≡ Some (Some beginning)) × (now ≡ Some (served ++ (beginning, client) ∷ []))

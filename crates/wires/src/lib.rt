@@ -8,6 +8,8 @@
 #![tactic(auto)]
 
 mod counting;
+#[cfg(test)]
+mod door_tests;
 mod doors;
 mod faults;
 mod lazy;
@@ -25,6 +27,8 @@ mod standard;
 mod sure;
 mod tcp_door;
 mod tcp_peer;
+#[cfg(test)]
+mod tcp_tests;
 #[cfg(test)]
 mod tests;
 

@@ -6,7 +6,7 @@ ghost use Rattle.std.specs.Option.{IsNone, IsSome, option_map};
 ghost use Rattle.std.specs.Result.{IsErr};
 ghost use Rattle.std.specs.declared.option.Option.{Option};
 ghost use Rattle.wires.specs.Causes.{HasCause, one_more};
-ghost use Rattle.wires.specs.Doors.{AddsServed, Beginning, EndsDoor, GivesOut, begun, with_served};
+ghost use Rattle.wires.specs.Doors.{AddsServed, Beginning, EndsDoor, GivesOut, begun};
 ghost use Rattle.wires.specs.MemoryDoors.{beginning_of, has_ended, next_fails, who_is_out};
 
 use crate::memory::is_among;

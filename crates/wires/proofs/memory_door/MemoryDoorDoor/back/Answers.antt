@@ -9,5 +9,6 @@ returns-clause-served c =
     let begun = c.in-Some.begun in
     let client = c.args.client in
     let out = ap (λ (d : Lobby). d.out) (sym c.self.view_is) ∙ sym c.take.ensures.value ∙ c.in-Some.is in
-    let more = zip_more inside.beginnings.items inside.served.items begun client (omega arith) in
-    (begun, rw out refl, rw (c.push_reserved.ensures.items, c.push_reserved-2.ensures.items, more) (ap (λ (d : Lobby). Some (d.served ++ (begun, client) ∷ [])) c.self.view_is))
+    let pair = zip_more inside.beginnings.items inside.served.items begun client (omega arith) in
+    let more = ap (λ (d : Lobby). Some (d.served ++ (begun, client) ∷ [])) c.self.view_is in
+    (begun, rw out refl, rw (c.push_reserved.ensures.items, c.push_reserved-2.ensures.items, pair) more)
