@@ -1,5 +1,5 @@
 //! A client at the other end of a TCP connection.
-ghost use Rattle.std.specs.Prelude.{◌≡◌, ◌||◌, false, refl, None, IsTrue};
+ghost use Rattle.std.specs.Prelude.{◌≡◌, ◌<◌, ◌||◌, length, false, refl, None, IsTrue};
 ghost use Rattle.std.specs.Result.{IsErr, is_err};
 ghost use Rattle.std.specs.Io.{ReadsAtMost};
 ghost use Rattle.wires.specs.Asides.{faults_of, met_of};
@@ -104,15 +104,15 @@ impl Source for TcpPeer {
         ensures stays { IsTrue self.old.ended → result ≡ Ok 0 }
         ensures cause { HasCause self.old.read_faults self.new.read_faults result }
         ensures lost { self.new.is_lost ≡ (self.old.is_lost || is_err result) }
-        ensures stays_lost { IsTrue self.old.is_lost → self.old.ended ≡ false → IsErr result }
+        ensures stays_lost { IsTrue self.old.is_lost → self.old.ended ≡ false → 0 < length into.new → IsErr result }
         ensures write_faults { self.new.write_faults ≡ self.old.write_faults }
     {
-        if self.ended {
+        if self.ended || into.is_empty() {
             return Ok(0);
         }
         if !self.is_lost {
             if let Ok(count) = read_once(&mut self.stream, into) {
-                self.ended = count == 0 && !into.is_empty();
+                self.ended = count == 0;
                 return Ok(count);
             }
         }

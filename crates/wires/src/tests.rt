@@ -6,6 +6,8 @@ ghost use Rattle.wires.specs.Bytes.{PutAppends};
 ghost use Rattle.wires.specs.Lazy.{PutCounts, PutTells, PutWrites, ReadCounts, ReadTakes, ReadTells};
 
 use crate::*;
+use std::io;
+use std::io::{ErrorKind, Read, Write};
 use std::test::Fail;
 
 #[test]
@@ -35,6 +37,62 @@ fn standard_sink_writes_the_whole_piece(rt: HostRuntime) -> Result<(), Fail> {
     let mut sink = StdSink::make(Vec::new(rt.alloc()));
     assert_eq!(rt; sink.put(b"abc"), Ok(()));
     Ok(())
+}
+
+// Is interrupted at each other call. It gives and takes a byte a call, so many in all; then a read fails, and a write
+// takes none.
+#[derive(Drop)]
+struct Stuttering {
+    is_interrupted: bool,
+    left: usize,
+}
+
+impl Stuttering {
+    fn one_more(&mut self) -> io::Result<usize> {
+        self.is_interrupted = !self.is_interrupted;
+        if self.is_interrupted {
+            return Err(io::Error::from(ErrorKind::Interrupted));
+        }
+        let count = self.left.min(1);
+        self.left -= count;
+        Ok(count)
+    }
+}
+
+impl Read for Stuttering {
+    fn read(&mut self, into: &mut [u8]) -> io::Result<usize> {
+        match self.one_more()?.min(into.len()) {
+            0 => Err(io::Error::from(ErrorKind::BrokenPipe)),
+            count => Ok(count),
+        }
+    }
+}
+
+impl Write for Stuttering {
+    fn write(&mut self, bytes: &[u8]) -> io::Result<usize> {
+        Ok(self.one_more()?.min(bytes.len()))
+    }
+
+    fn flush(&mut self) -> io::Result<()> {
+        Ok(())
+    }
+}
+
+#[test]
+fn interrupted_calls_are_made_again(rt: HostRuntime) {
+    let mut source = StdSource::make(Stuttering {
+        is_interrupted: false,
+        left: 1,
+    });
+    let mut buffer = [0u8; 2];
+    assert_eq!(rt; source.read(&mut buffer), Ok(1));
+    assert_eq!(rt; source.read(&mut buffer), Err(Failed));
+    let mut sink = StdSink::make(Stuttering {
+        is_interrupted: false,
+        left: 3,
+    });
+    assert_eq!(rt; sink.put(b"ab"), Ok(()));
+    assert_eq!(rt; sink.put(b"cd"), Err(Failed));
 }
 
 // Reads from any peer, and leaves what it shows as a sink.
