@@ -4,7 +4,8 @@
 //! is told of has a cause: the count of faults of that very object rose by one in that very call, and
 //! it rises in no call that succeeds.
 //! A [`Peer`] is both, and its reads and puts leave each other alone. A [`LazyPeer`] may be not ready: it
-//! answers so rather than wait, and counts it.
+//! answers so rather than wait, and counts it. Peers come through a [`Door`], one after another, and go back
+//! to it.
 #![tactic(auto)]
 
 mod counting;

@@ -1,12 +1,10 @@
 //! A door in memory.
-ghost use Rattle.std.specs.Prelude.{◌≡◌, ◌++◌, ◌↔◌, List, [], map, drop, None, Some, IfOk, OnErr, IsTrue};
-ghost use Rattle.std.specs.Prelude.{if◌then◌else◌};
+ghost use Rattle.std.specs.Prelude.{◌≡◌, ◌↔◌, [], map, drop, None, Some, IfOk, IsTrue, if◌then◌else◌};
 ghost use Rattle.std.specs.List.{slice_get};
-ghost use Rattle.std.specs.Option.{IsNone, IsSome, option_map};
+ghost use Rattle.std.specs.Option.{IsNone, IsSome};
 ghost use Rattle.std.specs.Result.{IsErr};
-ghost use Rattle.std.specs.declared.option.Option.{Option};
 ghost use Rattle.wires.specs.Causes.{HasCause, one_more};
-ghost use Rattle.wires.specs.Doors.{AddsServed, Beginning, EndsDoor, GivesOut, begun};
+ghost use Rattle.wires.specs.Doors.{AddsServed, EndsDoor, GivesOut};
 ghost use Rattle.wires.specs.MemoryDoors.{beginning_of, has_ended, next_fails, who_is_out};
 
 use crate::memory::is_among;
@@ -94,7 +92,8 @@ impl MemoryDoor {
     /// Gives these clients in order, and none where no client is left. The calls of `next`, counted from 1, whose
     /// numbers are in `failing` fail, and use up no client. Of two clients with `failing` 2 the calls answer the
     /// first one, `Err(Failed)`, the second one and `None`. It copies what each client shows, so that it can tell
-    /// the beginnings, and takes the room for those that come back, so that no call takes memory.
+    /// the beginnings, and takes the room for those that come back, so that no call takes memory. A call of `next`
+    /// looks through `failing`.
     ///
     /// # Errors
     /// [`NoMemory`] where there is none for the copies or the room.
@@ -164,7 +163,8 @@ impl Door for MemoryDoor {
         ensures cause { HasCause self.old.faults self.new.faults result }
         ensures fails { IsErr result ↔ IsTrue (next_fails self.old) }
         ensures gives { IfOk result (λ given. given ≡ slice_get self.old.waiting 0) }
-        ensures waiting { self.new.waiting ≡ (if next_fails self.old then self.old.waiting else drop 1 self.old.waiting) }
+        ensures waiting { self.new.waiting ≡ (if next_fails self.old then self.old.waiting
+            else drop 1 self.old.waiting) }
         ensures calls { self.new.calls ≡ one_more self.old.calls }
         ensures failing { self.new.failing ≡ self.old.failing }
     {

@@ -1,5 +1,5 @@
 //! The outside itself: a few lines over std's reader and writer.
-ghost use Rattle.std.specs.Prelude.{◌≡◌, ℕ, ◌<◌, ◌≤◌, List, [], true, false};
+ghost use Rattle.std.specs.Prelude.{◌≡◌, [], true, false};
 ghost use Rattle.std.specs.Option.{ForSome};
 ghost use Rattle.wires.specs.Beside.{nothing_beside};
 
