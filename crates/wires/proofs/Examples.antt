@@ -1,7 +1,8 @@
 -- The definitions on small examples, by computing.
-use Rattle.std.proofs.Common.{◌≡◌, ℕ, Bool, [], ◌∷◌, Ok, Err, Some, true, false, refl, codes, arith}
+use Rattle.std.proofs.Common.{◌≡◌, ℕ, Bool, [], ◌∷◌, Ok, Err, None, Some, true, false, refl, ap, codes, arith}
 use Rattle.wires.specs.Bytes.{answers_end, PutAppends}
 use Rattle.wires.specs.Causes.{CountsOne}
+use Rattle.wires.specs.Doors.{AddsServed, Beginning, EndsDoor, IsOut, begun}
 use Rattle.wires.specs.LazyMemory.{LazyState, read_answer, put_answer}
 use Rattle.wires.specs.Memory.{Supply, Store, read_count, read_fails, put_writes}
 use Rattle.wires.specs.declared.lazy.Got.TheVariants as got
@@ -77,3 +78,23 @@ fourth_takes_one = refl
 
 end_stays : read_answer (peer 2 true) 8 ≡ got.End
 end_stays = refl
+
+-- what a client showed that had failed so often
+abbrev beginning : ℕ → Beginning
+beginning faults = begun None None faults 0
+
+-- a beginning that isn't told may be any, and one that is told is no other
+untold_out : IsOut (Some None) (beginning 0)
+untold_out = tt
+
+other_out : IsOut (Some (Some (beginning 0))) (beginning 1) → ⊥
+other_out same = omega (arith, ap (λ (b : Beginning). b.read_faults) same)
+
+-- two clients that came back, in order, here told as numbers
+came_back : AddsServed {C = ℕ} (Some (Some (beginning 1))) 8 (Some ((beginning 0, 7) ∷ []))
+    (Some ((beginning 0, 7) ∷ (beginning 1, 8) ∷ []))
+came_back = (beginning 1, refl, refl)
+
+-- a door that hasn't ended doesn't answer that nobody comes
+no_end : EndsDoor {C = ℕ} {E = Unit {0}} (Ok None) false false → ⊥
+no_end is = absurd (cc)
