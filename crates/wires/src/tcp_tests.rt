@@ -48,20 +48,28 @@ fn tcp_client_that_sent_all_gets_its_reply(rt: HostRuntime) -> Result<(), Fail> 
 // Sends more than is read, and counts the bytes that come back before the end.
 fn send_on(mut stream: TcpStream) -> Option<usize> {
     stream.write_all(b"abcdefgh").ok()?;
-    let mut buffer = [0u8; 4];
-    let count = stream.read(&mut buffer).ok()?;
-    let rest = stream.read(&mut buffer).ok()?;
-    Some(count.saturating_add(rest))
+    let mut buffer = [0u8; 4096];
+    let mut total = 0usize;
+    for _ in 0..u64::MAX {
+        match stream.read(&mut buffer).ok()? {
+            0 => break,
+            count => total = total.saturating_add(count),
+        }
+    }
+    Some(total)
 }
 
-// Reads a part of what a client sends, and gives it back after a reply.
+// Reads a part of what a client sends, and gives it back after a long reply.
 fn hang_up(mut door: TcpDoor) -> Option<usize>
     requires { door.is_out ≡ false }
 {
-    let mut client = door.next().ok()??;
-    let mut buffer = [0u8; 2];
-    let count = client.read(&mut buffer);
-    let answered = client.put(b"xyz");
+    let Ok(Some(mut client)) = door.next() else {
+        return None;
+    };
+    let count = client.read(&mut [0u8; 2]);
+    let reply = [b'x'; 1 << 16];
+    let pieces = [reply.as_slice(); 64];
+    let answered = put_pieces(&pieces, &mut client);
     door.back(client);
     answered.ok()?;
     count.ok()
@@ -72,7 +80,7 @@ fn tcp_client_that_sends_on_gets_its_reply(rt: HostRuntime) -> Result<(), Fail> 
     let (listener, stream) = connected(&rt)?;
     let door = TcpDoor::make(listener);
     let counts = thread::join(&rt, move || send_on(stream), move || hang_up(door));
-    assert_eq!(rt; counts, (Some(3), Some(2)));
+    assert_eq!(rt; counts, (Some(1 << 22), Some(2)));
     Ok(())
 }
 
