@@ -1,1 +1,5 @@
 pub mod Views
+pub mod Fronts
+pub mod Adding
+pub mod Taking
+pub mod Telling

@@ -53,7 +53,7 @@ views-push [] added = refl
 views-push (r ∷ records) added = ap (λ (v : List RecordView). arc_value r ∷ v) (views-push records added)
 
 -- what was added stands at the seam
-slice_get-seam : (records : List RecordView) (added : RecordView)
+pub slice_get-seam : (records : List RecordView) (added : RecordView)
     → slice_get (records ++ added ∷ []) (length records) ≡ Some added
 slice_get-seam [] added = refl
 slice_get-seam (r ∷ records) added = slice_get-seam records added

@@ -1,0 +1,7 @@
+use Rattle.left_right.specs.Handles.{pending, published}
+use Rattle.std.proofs.Common.{◌≡◌}
+use Rattle.tree_versions.proofs.publisher.show.Given as goal
+
+abbrev pub invariant-loop : goal.invariant-loop
+invariant-loop g l =
+    (published l.writer ≡ published l.initial.writer) × (pending l.writer ≡ pending l.initial.writer)

@@ -1,0 +1,103 @@
+//! A board is closed.
+ghost use Rattle.std.specs.Prelude.{◌≡◌, ◌+◌, All, length, sum_by};
+ghost use Rattle.tree_versions.specs.Boards.{IsFrontOf};
+ghost use Rattle.tree_versions.specs.Solo.{IsSoundShelf, views_of};
+
+use crate::front::{BoardLog, Front};
+use crate::publisher::{BoardWriter, Publisher, Tally, WriterSide, show};
+use crate::seat::Seat;
+use crate::seat_ledger::SeatLedger;
+use crate::{MOST_RECORDS, Record};
+use std::sync::ledger::Share;
+use std::sync::{Arc, Wait};
+
+/// Knows that what was seen is a front of the list, since both are of one log. It waits for ever where more was seen
+/// than the list has, which can't be.
+fn know_front<J: BoardLog, W: Wait>(rt: &W, list: &Front<J>, seen: &Front<J>)
+    ensures { IsFrontOf list.now seen.now }
+{
+    let _begins = list.longer(seen);
+    if seen.len() <= list.len() {
+        return;
+    }
+    for _ in rt.forever() {}
+    unreachable!()
+}
+
+/// Knows it of what each seat has seen.
+fn know_fronts<J: BoardLog, L: SeatLedger, W: Wait>(rt: &W, list: &Front<J>, seats: &[Seat<J, L>])
+    ensures { All (λ seat. IsFrontOf list.now seat.seen) seats.now }
+{
+    for seat in seats {
+        know_front(rt, list, seat.front());
+    }
+}
+
+/// Puts all parts of the ledger together.
+fn gather<J: BoardLog, L: SeatLedger>(rest: Share<L>, seats: Vec<Seat<J, L>>) -> Share<L>
+    ensures parts { result.parts ≡ rest.parts + length seats.items }
+    ensures amount { result.amount ≡ rest.amount + sum_by (λ seat. seat.own) seats.items }
+{
+    let mut rest = rest;
+    for seat in seats {
+        rest.merge(seat.into_share());
+    }
+    rest
+}
+
+/// Knows that as many records were published for all seats as the list has. It waits for ever where it has another
+/// number than was counted, which can't be.
+fn audit<J: BoardLog, L: SeatLedger, W: Wait>(
+    rt: &W,
+    tally: Tally<J, L>,
+    given: u32,
+    list: &Front<J>,
+    seats: Vec<Seat<J, L>>,
+)
+    requires all { length seats.items ≡ given }
+    requires parts { L.all ≡ L.parts }
+    ensures { sum_by (λ seat. seat.own) seats.items ≡ length list.now }
+{
+    let Tally {
+        front,
+        mut book,
+        rest,
+        seats: made,
+    } = tally;
+    let mut all = gather(rest, seats);
+    if made == given && front.len() == list.len() {
+        book.audit(&mut all);
+        return;
+    }
+    for _ in rt.forever() {}
+    unreachable!()
+}
+
+/// The whole list of a board, version 1 first, once all its seats are back. What each seat has seen is a front of it,
+/// and it has as many records as were published for the seats. It takes no memory.
+pub fn close_board<J: BoardLog, L: SeatLedger, R: Wait + Drop, W: Wait>(
+    rt: &W,
+    publisher: Publisher<J, L, BoardWriter<J, R>>,
+    seats: Vec<Seat<J, L>>,
+) -> Vec<Arc<Record>>
+    requires seats { length seats.items ≡ publisher.seats }
+    requires parts { L.all ≡ L.parts }
+    ensures fronts { All (λ seat. IsFrontOf (views_of result.items) seat.seen) seats.items }
+    ensures own { sum_by (λ seat. seat.own) seats.items ≡ length result.items }
+    ensures sound { IsSoundShelf (views_of result.items) }
+{
+    let Publisher {
+        side,
+        length: _,
+        seats: given,
+    } = publisher;
+    let WriterSide { mut writer, tally } = side.into_inner();
+    if writer.has_pending_operations() {
+        show(rt, &mut writer);
+    }
+    let (records, list) = Box::into_inner(writer.take()).into_parts();
+    know_fronts(rt, &list, seats.as_slice());
+    audit(rt, tally, given, &list, seats);
+    prove!(list.len() <= u64::from(MOST_RECORDS));
+    records
+}

@@ -1,0 +1,149 @@
+//! The log of a board, and what was seen of it.
+ghost use Rattle.std.specs.Prelude.{◌≡◌, ◌++◌, ◌∷◌, ◌⊎◌, [], length, MatchBool};
+ghost use Rattle.tree_versions.specs.BoardRule.{IsLonger, MayFollow, word_of};
+ghost use Rattle.tree_versions.specs.Records.{Grows};
+ghost use Rattle.tree_versions.specs.Solo.{IsSoundShelf};
+
+use crate::Record;
+use crate::log_rule::{Add, NoGain, SoundLog};
+use logbook::{Offer, Seen, Start, Word};
+use std::marker::{Brand, Model, PhantomData};
+
+/// Which log the values of one board speak of. Two boards have two, so what belongs to the one is nothing of the
+/// other.
+pub trait BoardLog {
+    ghost use Rattle.logbook.specs.Pages.{Book};
+
+    ghost book: { Book };
+}
+
+impl BoardLog for Brand {
+    ghost book = { record { number = 0; log_name = 0; cells_name = 0 } };
+}
+
+/// A log without records, which belongs to no board yet.
+pub struct OpenedLog {
+    word: Word<Record, u64, SoundLog>,
+    seen: Seen<Record, u64, SoundLog>,
+    pub ghost empty: { seen.log ≡ [] },
+    pub ghost word_is: { word ≡ word_of seen.book },
+}
+
+impl OpenedLog {
+    /// It takes no memory.
+    pub fn new() -> OpenedLog {
+        let (seen, mut pen, _) = Seen::open(Start::alone(), 0, 0);
+        OpenedLog {
+            word: Word::tracked(0, &mut pen),
+            seen,
+        }
+    }
+
+    /// The length of the log, and a front without records.
+    pub(crate) fn named<J: BoardLog>(self) -> (LogLength<J>, Front<J>)
+        requires { self.seen.book ≡ J.book }
+        ensures { result.1 ≡ [] }
+    {
+        let OpenedLog { word, seen } = self;
+        let length = LogLength {
+            word,
+            of: PhantomData,
+        };
+        let front = Front {
+            count: 0,
+            seen,
+            of: PhantomData,
+        };
+        (length, front)
+    }
+}
+
+/// The word that all share: how many records the log has.
+#[derive(Drop)]
+pub struct LogLength<J: BoardLog> {
+    word: Word<Record, u64, SoundLog>,
+    of: PhantomData<J>,
+    ghost word_is: { word ≡ word_of J.book },
+}
+
+/// A front of the log that was seen: the log begins with these records for good. It has no records at run time, only
+/// their number. Contracts see their views.
+#[derive(Drop)]
+pub struct Front<J: BoardLog> {
+    count: u64,
+    seen: Seen<Record, u64, SoundLog>,
+    of: PhantomData<J>,
+}
+
+impl<J: BoardLog> Model for Front<J> {
+    ghost use Rattle.std.specs.Prelude.{◌≡◌, List, length};
+    ghost use Rattle.tree_versions.specs.Records.{RecordView};
+    ghost use Rattle.tree_versions.specs.Solo.{IsSoundShelf};
+
+    ghost Value = { List RecordView };
+
+    ghost view = { λ front. front.seen.log };
+
+    ghost invariant = { λ front. (front.count ≡ length front.seen.log) × (front.seen.book ≡ J.book) × IsSoundShelf front.seen.log };
+}
+
+impl<J: BoardLog> Front<J> {
+    /// How many records it has.
+    pub(crate) fn len(&self) -> u64
+        ensures count { result ≡ length self.now }
+        ensures sound { IsSoundShelf self.now }
+    {
+        self.count
+    }
+
+    /// The same front once more.
+    pub(crate) fn again(&self) -> Front<J>
+        ensures { result ≡ self.now }
+    {
+        Front {
+            count: self.count,
+            seen: self.seen.again(),
+            of: PhantomData,
+        }
+    }
+
+    /// The longer one of two fronts: both begin one log, so it begins with the other.
+    pub(crate) fn longer(&self, other: &Front<J>) -> Front<J>
+        ensures one { (result ≡ self.now) ⊎ (result ≡ other.now) }
+        ensures this { Grows self.now result }
+        ensures that { Grows other.now result }
+        ensures sound { IsSoundShelf result }
+    {
+        let mut both = self.seen.again();
+        both.learn(&other.seen);
+        if self.count < other.count {
+            other.again()
+        } else {
+            self.again()
+        }
+    }
+
+    /// Adds a record to the log behind all that was seen, and says whether it did. It didn't where the log is
+    /// longer than this front.
+    pub(crate) fn add(&mut self, length: &LogLength<J>, added: &Record) -> bool
+        requires { MayFollow self.old added.now }
+        ensures { MatchBool result (self.new ≡ self.old ++ added.now ∷ []) (IsLonger self.old self.new) }
+    {
+        let mut offer: Offer<Record, u64, SoundLog, NoGain> = self
+            .seen
+            .plain::<NoGain, Record, Add>(added);
+        let mut pen = self.seen.no_pen();
+        let count = self.count;
+        let found = length
+            .word
+            .compare_exchange::<Add, NoGain>(
+                count,
+                count + 1,
+                &mut self.seen,
+                &mut offer,
+                &mut pen,
+            );
+        self.count = if found == count { count + 1 } else { found };
+        found == count
+    }
+}

@@ -1,0 +1,108 @@
+//! A board is made.
+ghost use Rattle.std.specs.Prelude.{◌≡◌, ◌+◌, ◌<◌, ◌≤◌, [], All, IfOk, OnOk, length};
+ghost use Rattle.tree_versions.specs.Boards.{IsNew};
+ghost use Rattle.tree_versions.specs.declared.opening.TheConstants.{MOST_DESKS};
+
+use crate::MOST_RECORDS;
+use crate::copies::{Addition, ListCopy};
+use crate::front::{BoardLog, Front, OpenedLog};
+use crate::publisher::{BoardWriter, Publisher, Tally, WriterSide};
+use crate::seat::Seat;
+use crate::seat_ledger::SeatLedger;
+use cut_model::NoMemory;
+use left_right::WriteHandle;
+use std::alloc::Global;
+use std::sync::ledger::{Blank, Share};
+use std::sync::{Mutex, Wait};
+
+/// The most desks that share a board.
+pub const MOST_DESKS: u32 = 8;
+
+/// As many seats as can be had, of those that are wanted.
+fn make_seats<J: BoardLog, L: SeatLedger, R: Wait + Drop>(
+    alloc: Global,
+    writer: &BoardWriter<J, R>,
+    front: &Front<J>,
+    rest: &mut Share<L>,
+    desks: u32,
+) -> Result<Vec<Seat<J, L>>, NoMemory>
+    requires front { front.now ≡ [] }
+    requires parts { desks < rest.old.parts }
+    requires idle { rest.old.amount ≡ 0 }
+    ensures most { IfOk result (λ seats. length seats.items ≤ desks) }
+    ensures parts { IfOk result (λ seats. rest.new.parts + length seats.items ≡ rest.old.parts) }
+    ensures idle { OnOk result (rest.new.amount ≡ 0) }
+    ensures new { IfOk result (λ seats. All IsNew seats.items) }
+{
+    let mut seats = Vec::with_capacity(alloc, desks as usize)?;
+    for _ in 0..desks {
+        let (Ok(reader), Ok(records)) = (
+            writer.handle(),
+            Vec::with_capacity(alloc, MOST_RECORDS as usize),
+        ) else {
+            break;
+        };
+        let share = rest.split_off(1, 0);
+        seats.push_reserved(Seat::make(reader, records, front.again(), share));
+    }
+    Ok(seats)
+}
+
+/// A board without records, for at most so many desks, from 1 to [`MOST_DESKS`], and its seats, at least one. All its
+/// memory is taken here, but for the notes. The handle is kept by what publishes.
+///
+/// # Errors
+/// [`NoMemory`] where that memory can't be had.
+pub fn make_board<J: BoardLog, L: SeatLedger, R: Wait + Drop>(
+    alloc: Global,
+    rt: R,
+    desks: u32,
+    opened: OpenedLog,
+    blank: Blank,
+) -> Result<(Publisher<J, L, BoardWriter<J, R>>, Vec<Seat<J, L>>), NoMemory>
+    requires some { 0 < desks }
+    requires most { desks ≤ MOST_DESKS }
+    requires log { opened.seen.book ≡ J.book }
+    requires name { blank.name ≡ L.name }
+    requires parts { blank.parts ≡ L.parts }
+    requires all { L.all ≡ L.parts }
+    requires room { MOST_DESKS < L.parts }
+    ensures some { IfOk result (λ board. 0 < length board.1.items) }
+    ensures most { IfOk result (λ board. length board.1.items ≤ desks) }
+    ensures seats { IfOk result (λ board. length board.1.items ≡ board.0.seats) }
+    ensures new { IfOk result (λ board. All IsNew board.1.items) }
+{
+    let (length, front) = opened.named::<J>();
+    let (book, mut rest) = blank.open::<L>();
+    let first = ListCopy::make(
+        Vec::with_capacity(alloc, MOST_RECORDS as usize)?,
+        front.again(),
+    );
+    let second = ListCopy::make(
+        Vec::with_capacity(alloc, MOST_RECORDS as usize)?,
+        front.again(),
+    );
+    let mut writer = WriteHandle::new(alloc, rt, first, second, desks as usize)?;
+    // The room in which an addition is pending is taken by the first one.
+    if writer.append(Addition::idle(front.again())).is_err() {
+        return Err(NoMemory);
+    }
+    writer.publish()?;
+    let made = make_seats(alloc, &writer, &front, &mut rest, desks)?;
+    if made.is_empty() {
+        return Err(NoMemory);
+    }
+    let seats = made.len() as u32;
+    let tally = Tally {
+        front,
+        book,
+        rest,
+        seats,
+    };
+    let publisher = Publisher {
+        side: Mutex::new(WriterSide { writer, tally }),
+        length,
+        seats,
+    };
+    Ok((publisher, made))
+}
