@@ -30,7 +30,8 @@ impl<J: BoardLog> Model for ListCopy<J> {
 
     ghost view = { λ copy. copy.front };
 
-    ghost invariant = { λ copy. (views_of copy.records.items ≡ copy.front) × (MOST_RECORDS ≤ vec_capacity copy.records) };
+    ghost invariant = { λ copy. (views_of copy.records.items ≡ copy.front)
+        × (MOST_RECORDS ≤ vec_capacity copy.records) };
 }
 
 /// One record more for both copies: it stands last in the front that comes with it. An idle one has no record.
@@ -50,7 +51,8 @@ impl<J: BoardLog> Model for Addition<J> {
 
     ghost view = { λ addition. addition.front };
 
-    ghost invariant = { λ addition. MatchOption addition.record (addition.front ≡ []) (λ added. slice_get addition.front (length addition.front - 1) ≡ Some (arc_value added)) };
+    ghost invariant = { λ addition. MatchOption addition.record (addition.front ≡ [])
+        (λ added. slice_get addition.front (length addition.front - 1) ≡ Some (arc_value added)) };
 }
 
 impl<J: BoardLog> ListCopy<J> {

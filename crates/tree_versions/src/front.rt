@@ -84,7 +84,8 @@ impl<J: BoardLog> Model for Front<J> {
 
     ghost view = { λ front. front.seen.log };
 
-    ghost invariant = { λ front. (front.count ≡ length front.seen.log) × (front.seen.book ≡ J.book) × IsSoundShelf front.seen.log };
+    ghost invariant = { λ front. (front.count ≡ length front.seen.log) × (front.seen.book ≡ J.book)
+        × IsSoundShelf front.seen.log };
 }
 
 impl<J: BoardLog> Front<J> {

@@ -26,7 +26,8 @@ impl<J: BoardLog> Model for Note<J> {
 
     ghost view = { λ note. note.front };
 
-    ghost invariant = { λ note. (views_of note.records.items ≡ note.front) × (MOST_RECORDS ≤ vec_capacity note.records) };
+    ghost invariant = { λ note. (views_of note.records.items ≡ note.front)
+        × (MOST_RECORDS ≤ vec_capacity note.records) };
 }
 
 impl<J: BoardLog> Note<J> {

@@ -34,7 +34,8 @@ impl<J: BoardLog, L: SeatLedger> Model for Seat<J, L> {
 
     ghost view = { λ seat. record { seen = seat.front; own = seat.share.amount } };
 
-    ghost invariant = { λ seat. (views_of seat.records.items ≡ seat.front) × (MOST_RECORDS ≤ vec_capacity seat.records) × (seat.share.parts ≡ 1) };
+    ghost invariant = { λ seat. (views_of seat.records.items ≡ seat.front)
+        × (MOST_RECORDS ≤ vec_capacity seat.records) × (seat.share.parts ≡ 1) };
 }
 
 /// Takes over what a copy has more than what is kept. All stays where a further owner of a record can't be had.

@@ -1,22 +1,276 @@
-//! A record on a shelf, with ample memory.
+//! Records on shelves and boards, with ample memory.
+ghost use Rattle.std.specs.Prelude.{◌≡◌, ◌+◌, ◌*◌, ◌<◌, ◌≤◌, [], All, IfOk, length, sum_by, vec_capacity};
+ghost use Rattle.tree_versions.specs.Boards.{IsNew};
+ghost use Rattle.tree_versions.specs.declared.opening.TheConstants.{MOST_DESKS};
+ghost use Rattle.tree_versions.specs.declared.tests.TheConstants.{TURNS};
 
-use crate::{Record, Shelf, SoloShelf};
+use crate::{
+    BoardFault, BoardLog, BoardWriter, DeskShelf, MOST_DESKS, MOST_RECORDS, OpenedLog, Publisher,
+    Record, Seat, SeatLedger, Shelf, SoloShelf, close_board, make_board,
+};
 use commit_rule::complete;
 use network_text::{Fed, Reader};
+use std::alloc::Global;
+use std::marker::Brand;
+use std::process::Abort;
+use std::sync::ledger::Blank;
+use std::sync::{Arc, Wait};
 use std::test::Fail;
+use std::thread::{self, Threads};
 use tree_state::Growing;
+
+/// How often each desk publishes.
+const TURNS: u32 = 20;
+
+/// The record of a network of one router, with a name of one letter.
+fn record_of(alloc: Global, router: u8) -> Result<Arc<Record>, Fail> {
+    let mut line = *b"router a";
+    line[7] = router;
+    let mut reader = Reader::begin(alloc)?;
+    if reader.line(&line) != Fed::More || reader.line(b"END") != Fed::Ended {
+        return Err(Fail::from("no network"));
+    }
+    let sheet = reader.close()?;
+    let grow = Growing::make(alloc, sheet.net().clone()?)?;
+    let finished = complete(grow).ok().ok_or("a router wasn't committed")?;
+    Ok(Record::make(alloc, sheet, finished)?)
+}
 
 #[test]
 fn a_record_is_published(rt: HostRuntime) -> Result<(), Fail> {
-    let mut reader = Reader::begin(rt.alloc())?;
-    assert_eq!(rt; reader.line(b"router a"), Fed::More);
-    assert_eq!(rt; reader.line(b"END"), Fed::Ended);
-    let sheet = reader.close()?;
-    let grow = Growing::make(rt.alloc(), sheet.net().clone()?)?;
-    let finished = complete(grow).ok().ok_or("a router wasn't committed")?;
-    let record = Record::make(rt.alloc(), sheet, finished)?;
+    let record = record_of(rt.alloc(), b'a')?;
     let mut shelf = SoloShelf::make(rt.alloc())?;
     assert_eq!(rt; shelf.publish(record), Ok(1));
     assert_eq!(rt; shelf.look(), 1);
     Ok(())
+}
+
+/// A desk that publishes one record over and over, and counts how often it was accepted.
+#[derive(Drop)]
+struct Desk<H: Shelf> {
+    shelf: H,
+    record: Arc<Record>,
+    router: u8,
+    accepted: u32,
+    wrong: u32,
+    ghost counted: { H.published shelf ≡ accepted },
+    ghost few: { accepted ≤ TURNS },
+}
+
+impl<H: Shelf> Desk<H> {
+    /// Publishes the record once, which then stands at its version, and is seen.
+    fn publish(&mut self) {
+        let Desk {
+            shelf,
+            record,
+            router,
+            accepted,
+            wrong,
+        } = self;
+        let Ok(more) = Arc::try_clone(record) else {
+            return;
+        };
+        if *accepted == TURNS {
+            return;
+        }
+        let Ok(version) = shelf.publish(more) else {
+            return;
+        };
+        *accepted += 1;
+        if shelf
+            .record_at(version)
+            .sheet()
+            .number_of(&[*router])
+            .is_none()
+            || shelf.look() < version
+        {
+            *wrong = 1;
+        }
+    }
+
+    fn work(&mut self) {
+        for _ in 0..TURNS {
+            self.publish();
+        }
+    }
+}
+
+/// Each desk works in a thread of its own.
+fn work_all<H: Shelf + Send, R: Threads + Sync>(rt: &R, desks: &mut [Desk<H>]) {
+    thread::for_each_mut(rt, desks, 2, &|_, desk: &mut Desk<H>| desk.work());
+}
+
+/// The desk of a seat.
+type SeatedDesk<'a, J, L, S, R> = Desk<DeskShelf<'a, J, L, BoardWriter<J, S>, R>>;
+
+/// A desk that hasn't published yet.
+fn desk_of<H: Shelf + Drop>(alloc: Global, shelf: H, router: u8) -> Result<Desk<H>, Fail>
+    requires { H.published shelf ≡ 0 }
+{
+    Ok(Desk {
+        shelf,
+        record: record_of(alloc, router)?,
+        router,
+        accepted: 0,
+        wrong: 0,
+    })
+}
+
+/// A desk for each new seat. The list of seats is left empty, with its room.
+fn make_desks<'a, J: BoardLog, L: SeatLedger, S: Wait + Drop, R: Wait>(
+    alloc: Global,
+    rt: &'a R,
+    publisher: &'a Publisher<J, L, BoardWriter<J, S>>,
+    seats: &mut Vec<Seat<J, L>>,
+) -> Result<Vec<SeatedDesk<'a, J, L, S, R>>, Fail>
+    requires { All IsNew seats.old.items }
+    ensures count { IfOk result (λ desks. length desks.items ≡ length seats.old.items) }
+    ensures none { IfOk result (λ _. seats.new.items ≡ []) }
+    ensures room { IfOk result (λ desks. length desks.items ≤ vec_capacity seats.new) }
+{
+    let mut desks = Vec::with_capacity(alloc, seats.len())?;
+    while let Some(seat) = seats.pop() {
+        let router = if desks.is_empty() { b'a' } else { b'b' };
+        let shelf = DeskShelf::make(alloc, rt, seat, publisher);
+        desks.push_reserved(desk_of(alloc, shelf, router)?);
+    }
+    Ok(desks)
+}
+
+/// Gives the seats back. It tells how many records were accepted, and whether a desk met what was wrong.
+fn leave_desks<'a, J: BoardLog, L: SeatLedger, S: Wait + Drop, R: Wait>(
+    desks: Vec<SeatedDesk<'a, J, L, S, R>>,
+    seats: &mut Vec<Seat<J, L>>,
+) -> (u32, u32)
+    requires few { length desks.items ≤ MOST_DESKS }
+    requires none { seats.old.items ≡ [] }
+    requires room { length desks.items ≤ vec_capacity seats.old }
+    ensures count { length seats.new.items ≡ length desks.entry.items }
+    ensures accepted { sum_by (λ seat. seat.own) seats.new.items ≡ result.0 }
+{
+    let mut desks = desks;
+    let mut all = 0;
+    let mut any = 0;
+    while let Some(desk) = desks.pop() {
+        let Desk {
+            shelf,
+            record: _,
+            router: _,
+            accepted,
+            wrong,
+        } = desk;
+        all += accepted;
+        any |= wrong;
+        seats.push_reserved(shelf.into_seat());
+    }
+    (all, any)
+}
+
+/// The whole list of two desks, how many records they say were accepted, and whether one met what was wrong.
+fn work_two_desks<J: BoardLog + Send + Sync, L: SeatLedger + Send + Sync, R: Threads + Wait + Sync>(
+    alloc: Global,
+    rt: &R,
+    opened: OpenedLog,
+    blank: Blank,
+) -> Result<(Vec<Arc<Record>>, u32, u32), Fail>
+    requires log { opened.seen.book ≡ J.book }
+    requires name { blank.name ≡ L.name }
+    requires parts { blank.parts ≡ L.parts }
+    requires all { L.all ≡ L.parts }
+    requires room { MOST_DESKS < L.parts }
+    ensures { IfOk result (λ done. done.1 ≡ length done.0.items) }
+{
+    let (publisher, mut seats) = make_board::<J, L, &R>(alloc, rt, 2, opened, blank)?;
+    let mut desks = make_desks(alloc, rt, &publisher, &mut seats)?;
+    work_all(rt, desks.as_mut_slice());
+    let (accepted, wrong) = leave_desks(desks, &mut seats);
+    Ok((close_board(rt, publisher, seats), accepted, wrong))
+}
+
+#[test]
+fn what_two_desks_publish_stands_at_its_versions(rt: HostRuntime) -> Result<(), Fail> {
+    let blank = Blank::new(u64::from(MOST_DESKS) + 1);
+    let (records, accepted, wrong) = work_two_desks::<Brand, Brand, _>(
+        rt.alloc(),
+        &rt,
+        OpenedLog::new(),
+        blank,
+    )?;
+    assert_eq!(rt; (records.len(), accepted, wrong), (40, 40, 0));
+    Ok(())
+}
+
+/// A record is published for the first of three seats. The second sees it untold, the third learns it.
+fn look_from_three_seats<J: BoardLog, L: SeatLedger, R: Wait + Abort + AllocGlobal>(
+    rt: &R,
+    opened: OpenedLog,
+    blank: Blank,
+) -> Result<(), Fail>
+    requires log { opened.seen.book ≡ J.book }
+    requires name { blank.name ≡ L.name }
+    requires parts { blank.parts ≡ L.parts }
+    requires all { L.all ≡ L.parts }
+    requires room { MOST_DESKS < L.parts }
+{
+    let alloc = rt.alloc();
+    let (publisher, mut seats) = make_board::<J, L, &R>(alloc, rt, 3, opened, blank)?;
+    assert_eq!(rt; seats.len(), 3);
+    let record = record_of(alloc, b'a')?;
+    let Ok(note) = publisher.publish(alloc, rt, &mut seats[0], record) else {
+        return Err(Fail::from("refused"));
+    };
+    assert_eq!(rt; note.version(), 1);
+    assert_eq!(rt; seats[0].versions(), 0);
+    assert_eq!(rt; seats[1].look(), 1);
+    assert_eq!(rt; seats[1].record_at(1).sheet().net().routers(), 1);
+    seats[2].learn(note);
+    assert_eq!(rt; seats[2].look(), 1);
+    assert_eq!(rt; close_board(rt, publisher, seats).len(), 1);
+    Ok(())
+}
+
+#[test]
+fn a_seat_sees_what_it_was_not_told_of(rt: HostRuntime) -> Result<(), Fail> {
+    let blank = Blank::new(u64::from(MOST_DESKS) + 1);
+    look_from_three_seats::<Brand, Brand, _>(&rt, OpenedLog::new(), blank)
+}
+
+/// A board takes as many records as there may be, and hands the next one back.
+fn publish_one_too_many<J: BoardLog, L: SeatLedger, R: Wait + Abort + AllocGlobal>(
+    rt: &R,
+    opened: OpenedLog,
+    blank: Blank,
+) -> Result<(), Fail>
+    requires log { opened.seen.book ≡ J.book }
+    requires name { blank.name ≡ L.name }
+    requires parts { blank.parts ≡ L.parts }
+    requires all { L.all ≡ L.parts }
+    requires room { MOST_DESKS < L.parts }
+{
+    let alloc = rt.alloc();
+    let (publisher, mut seats) = make_board::<J, L, &R>(alloc, rt, 1, opened, blank)?;
+    let record = record_of(alloc, b'a')?;
+    for _ in 0..MOST_RECORDS {
+        let more = Arc::try_clone(&record)?;
+        assert!(rt; publisher.publish(alloc, rt, &mut seats[0], more).is_ok());
+    }
+    let Err(refused) = publisher.publish(alloc, rt, &mut seats[0], record) else {
+        return Err(Fail::from("accepted"));
+    };
+    let (fault, _record) = refused;
+    let BoardFault::Full(note) = fault else {
+        return Err(Fail::from("no memory"));
+    };
+    assert_eq!(rt; note.version(), MOST_RECORDS);
+    assert_eq!(rt;
+        close_board(rt, publisher, seats).len(),
+        MOST_RECORDS as usize
+    );
+    Ok(())
+}
+
+#[test]
+fn a_board_is_full_at_256_records(rt: HostRuntime) -> Result<(), Fail> {
+    let blank = Blank::new(u64::from(MOST_DESKS) + 1);
+    publish_one_too_many::<Brand, Brand, _>(&rt, OpenedLog::new(), blank)
 }
