@@ -39,7 +39,8 @@ adds_goes : (log seen : List RecordView) (added : RecordView) (count : ℕ) → 
 adds_goes log seen added count len may sound begins true is =
     let here : length log ≡ count = grind (arith, nat_tests) in
     let same : seen ≡ log = Grows-whole seen log (begins.0, sym begins.1) (omega arith) in
-    let longer : IsSoundShelf (log ++ added ∷ []) = sound-push log added sound (subst (λ v. MayFollow v added) same may) in
+    let longer : IsSoundShelf (log ++ added ∷ []) =
+    sound-push log added sound (subst (λ v. MayFollow v added) same may) in
     let word : either (length log == count) (count + 1) (length log) ≡ length (log ++ added ∷ []) =
     rw is (omega (arith, length-append log (added ∷ []))) in (
       keeps,

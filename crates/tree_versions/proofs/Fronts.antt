@@ -1,7 +1,8 @@
 -- Lists that begin one list.
 use Rattle.std.proofs.Common.{◌≡◌, ◌+◌, ◌≤◌, List, [], ◌∷◌, ◌++◌, length, Some, slice_get, refl, ap}
-use Rattle.std.proofs.Common.{◌∙◌, arith, append_assoc, length-append}
+use Rattle.std.proofs.Common.{◌∙◌, arith, append_assoc, length-append, sym}
 use Rattle.tree_versions.specs.Records.{RecordView, Grows}
+use mathlib.Core.List.{IsPrefix}
 
 -- a list that grows twice has grown
 pub Grows-trans : (a b c : List RecordView) → Grows a b → Grows b c → Grows a c
@@ -19,6 +20,10 @@ Grows-shorter (x ∷ a) (y ∷ b) [] p q le = absurd (cc (p.1))
 Grows-shorter (x ∷ a) (y ∷ b) (z ∷ whole) p q le =
     let heads : x ≡ y = cc (p.1, q.1) in
     let rest = Grows-shorter a b whole (p.0, cc (p.1)) (q.0, cc (q.1)) (omega arith) in (rest.0, cc (heads, rest.1))
+
+-- and so it is with beginnings of a log as they are told of it
+pub prefix_shorter : (a b log : List RecordView) → IsPrefix a log → IsPrefix b log → length a ≤ length b → Grows a b
+prefix_shorter a b log p q le = Grows-shorter a b log (p.0, sym p.1) (q.0, sym q.1) le
 
 -- a front as long as the whole is the whole
 pub Grows-whole : (a whole : List RecordView) → Grows a whole → length whole ≤ length a → a ≡ whole

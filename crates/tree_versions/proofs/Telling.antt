@@ -9,7 +9,8 @@ use Rattle.tree_versions.specs.Records.{RecordView, Grows, record_at}
 pub tells_of-push : (seen list note : List RecordView) (added : RecordView) → Grows seen list
     → note ≡ list ++ added ∷ [] → TellsOf seen note added
 tells_of-push seen list note added grows push =
-    let size : length note ≡ suc (length list) = omega (arith, ap length push, length-append list (added ∷ [])) in record {
+    let size : length note ≡ suc (length list) =
+    omega (arith, ap length push, length-append list (added ∷ [])) in record {
       grows = Grows-trans seen list note grows (added ∷ [], push);
       later = omega (arith, size, Grows-length seen list grows);
       place = ap (record_at note) size ∙ ap (λ (v : List RecordView). slice_get v (length list)) push

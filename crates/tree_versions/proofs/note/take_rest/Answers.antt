@@ -8,17 +8,22 @@ use Rattle.tree_versions.specs.Records.{RecordView}
 
 pub returns-in-Err-clause-taken : goal.returns-in-Err-clause-taken
 returns-in-Err-clause-taken c =
-    let had : c.len-had.result ≡ length c.args.kept.now.items = search rules in
-    let le : length c.args.kept.now.items ≤ c.loop-place.place = search rules in
+    let kept : List (Arc RecordView Global) = c.args.kept.now.items in
+    let place = c.loop-place.place in
+    let had : c.len-had.result ≡ length kept = search rules in
+    let le : length kept ≤ place = search rules in
     rw (c.truncate.ensures.items, had)
-    (untaken c.args.kept.now.items c.loop-place.kept.items _ c.loop-place.place c.requires.grows le c.loop-place.invariant.0)
+    (untaken kept c.loop-place.kept.items _ place c.requires.grows le c.loop-place.invariant.0)
 
 pub loop-place-preserved : goal.loop-place-preserved
 loop-place-preserved c =
-    let records : List (Arc RecordView Global) = c.args.list.now in
-    let at = slice_get_read records (length records) c.loop-place.place c.index-list-place.result refl (omega arith)
-    c.index-list-place.is in (
-      taken_one c.loop-place.kept.items c.push_reserved.new.self.items records c.loop-place.place
-          c.index-list-place.result c.in-Ok.more at (search rules) c.loop-place.invariant.0 c.push_reserved.ensures.items,
+    let list : List (Arc RecordView Global) = c.args.list.now in
+    let place = c.loop-place.place in
+    let kept : List (Arc RecordView Global) = c.loop-place.kept.items in
+    let now : List (Arc RecordView Global) = c.push_reserved.new.self.items in
+    let there = c.index-list-place.result in
+    let at = slice_get_read list (length list) place there refl (omega arith) c.index-list-place.is in (
+      taken_one kept now list place there c.in-Ok.more at (search rules) c.loop-place.invariant.0
+          c.push_reserved.ensures.items,
       search rules,
     )
