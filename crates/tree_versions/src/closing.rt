@@ -3,17 +3,17 @@ ghost use Rattle.std.specs.Prelude.{◌≡◌, ◌+◌, All, length, sum_by};
 ghost use Rattle.tree_versions.specs.Boards.{IsFrontOf};
 ghost use Rattle.tree_versions.specs.Solo.{IsSoundShelf, views_of};
 
-use crate::front::{BoardLog, Front};
+use crate::board::Board;
+use crate::front::Front;
 use crate::publisher::{BoardWriter, Publisher, Tally, WriterSide, show};
 use crate::seat::Seat;
-use crate::seat_ledger::SeatLedger;
 use crate::{MOST_RECORDS, Record};
 use std::sync::ledger::Share;
 use std::sync::{Arc, Wait};
 
 /// Knows that what was seen is a front of the list, since both are of one log. It waits for ever where more was seen
 /// than the list has, which can't be.
-fn know_front<J: BoardLog, W: Wait>(rt: &W, list: &Front<J>, seen: &Front<J>)
+fn know_front<B: Board, W: Wait>(rt: &W, list: &Front<B>, seen: &Front<B>)
     ensures { IsFrontOf list.now seen.now }
 {
     let _begins = list.longer(seen);
@@ -25,7 +25,7 @@ fn know_front<J: BoardLog, W: Wait>(rt: &W, list: &Front<J>, seen: &Front<J>)
 }
 
 /// Knows it of what each seat has seen.
-fn know_fronts<J: BoardLog, L: SeatLedger, W: Wait>(rt: &W, list: &Front<J>, seats: &[Seat<J, L>])
+fn know_fronts<B: Board, W: Wait>(rt: &W, list: &Front<B>, seats: &[Seat<B>])
     ensures { All (λ seat. IsFrontOf list.now seat.seen) seats.now }
 {
     for seat in seats {
@@ -34,7 +34,7 @@ fn know_fronts<J: BoardLog, L: SeatLedger, W: Wait>(rt: &W, list: &Front<J>, sea
 }
 
 /// Puts all parts of the ledger together.
-fn gather<J: BoardLog, L: SeatLedger>(rest: Share<L>, seats: Vec<Seat<J, L>>) -> Share<L>
+fn gather<B: Board>(rest: Share<B>, seats: Vec<Seat<B>>) -> Share<B>
     ensures parts { result.parts ≡ rest.parts + length seats.items }
     ensures amount { result.amount ≡ rest.amount + sum_by (λ seat. seat.own) seats.items }
 {
@@ -47,15 +47,15 @@ fn gather<J: BoardLog, L: SeatLedger>(rest: Share<L>, seats: Vec<Seat<J, L>>) ->
 
 /// Knows that as many records were published for all seats as the list has. It waits for ever where it has another
 /// number than was counted, which can't be.
-fn audit<J: BoardLog, L: SeatLedger, W: Wait>(
+fn audit<B: Board, W: Wait>(
     rt: &W,
-    tally: Tally<J, L>,
+    tally: Tally<B>,
     given: u32,
-    list: &Front<J>,
-    seats: Vec<Seat<J, L>>,
+    list: &Front<B>,
+    seats: Vec<Seat<B>>,
 )
     requires all { length seats.items ≡ given }
-    requires parts { L.all ≡ L.parts }
+    requires parts { B.all ≡ B.parts }
     ensures { sum_by (λ seat. seat.own) seats.items ≡ length list.now }
 {
     let Tally {
@@ -75,13 +75,13 @@ fn audit<J: BoardLog, L: SeatLedger, W: Wait>(
 
 /// The whole list of a board, version 1 first, once all its seats are back. What each seat has seen is a front of it,
 /// and it has as many records as were published for the seats. It takes no memory.
-pub fn close_board<J: BoardLog, L: SeatLedger, R: Wait + Drop, W: Wait>(
+pub fn close_board<B: Board, R: Wait + Drop, W: Wait>(
     rt: &W,
-    publisher: Publisher<J, L, BoardWriter<J, R>>,
-    seats: Vec<Seat<J, L>>,
+    publisher: Publisher<B, BoardWriter<B, R>>,
+    seats: Vec<Seat<B>>,
 ) -> Vec<Arc<Record>>
     requires seats { length seats.items ≡ publisher.seats }
-    requires parts { L.all ≡ L.parts }
+    requires parts { B.all ≡ B.parts }
     ensures fronts { All (λ seat. IsFrontOf (views_of result.items) seat.seen) seats.items }
     ensures own { sum_by (λ seat. seat.own) seats.items ≡ length result.items }
     ensures sound { IsSoundShelf (views_of result.items) }

@@ -6,7 +6,8 @@ ghost use Rattle.tree_versions.specs.Solo.{views_of};
 ghost use Rattle.tree_versions.specs.declared.shelf.TheConstants.{MOST_RECORDS};
 
 use crate::Record;
-use crate::front::{BoardLog, Front};
+use crate::board::Board;
+use crate::front::Front;
 use left_right::Absorb;
 use std::alloc::AllocError;
 use std::marker::Model;
@@ -15,12 +16,12 @@ use std::sync::Arc;
 /// One of the two copies, with the front of the log that it shows. It has room for as many records as there may be.
 /// Contracts see their views.
 #[derive(Drop)]
-pub struct ListCopy<J: BoardLog> {
+pub struct ListCopy<B: Board> {
     records: Vec<Arc<Record>>,
-    front: Front<J>,
+    front: Front<B>,
 }
 
-impl<J: BoardLog> Model for ListCopy<J> {
+impl<B: Board> Model for ListCopy<B> {
     ghost use Rattle.std.specs.Prelude.{◌≡◌, ◌≤◌, List, vec_capacity};
     ghost use Rattle.tree_versions.specs.Records.{RecordView};
     ghost use Rattle.tree_versions.specs.Solo.{views_of};
@@ -37,12 +38,12 @@ impl<J: BoardLog> Model for ListCopy<J> {
 /// One record more for both copies: it stands last in the front that comes with it. An idle one has no record.
 /// Contracts see the views of the front.
 #[derive(Drop)]
-pub struct Addition<J: BoardLog> {
+pub struct Addition<B: Board> {
     record: Option<Arc<Record>>,
-    front: Front<J>,
+    front: Front<B>,
 }
 
-impl<J: BoardLog> Model for Addition<J> {
+impl<B: Board> Model for Addition<B> {
     ghost use Rattle.std.specs.Prelude.{◌≡◌, ◌-◌, List, [], length, slice_get, Some, MatchOption};
     ghost use Rattle.std.specs.Arc.{arc_value};
     ghost use Rattle.tree_versions.specs.Records.{RecordView};
@@ -55,9 +56,9 @@ impl<J: BoardLog> Model for Addition<J> {
         (λ added. slice_get addition.front (length addition.front - 1) ≡ Some (arc_value added)) };
 }
 
-impl<J: BoardLog> ListCopy<J> {
+impl<B: Board> ListCopy<B> {
     /// A copy of records and the front that they are.
-    pub(crate) fn make(records: Vec<Arc<Record>>, front: Front<J>) -> ListCopy<J>
+    pub(crate) fn make(records: Vec<Arc<Record>>, front: Front<B>) -> ListCopy<B>
         requires records { views_of records.items ≡ front }
         requires room { MOST_RECORDS ≤ vec_capacity records }
         ensures { result ≡ front }
@@ -66,7 +67,7 @@ impl<J: BoardLog> ListCopy<J> {
     }
 
     /// The records and their front.
-    pub(crate) fn into_parts(self) -> (Vec<Arc<Record>>, Front<J>)
+    pub(crate) fn into_parts(self) -> (Vec<Arc<Record>>, Front<B>)
         ensures records { views_of result.0.items ≡ self }
         ensures front { result.1 ≡ self }
     {
@@ -80,16 +81,16 @@ impl<J: BoardLog> ListCopy<J> {
         self.records.as_slice()
     }
 
-    pub(crate) fn front(&self) -> &Front<J>
+    pub(crate) fn front(&self) -> &Front<B>
         ensures { result.now ≡ self.now }
     {
         &self.front
     }
 }
 
-impl<J: BoardLog> Addition<J> {
+impl<B: Board> Addition<B> {
     /// The addition of the last record of a front.
-    pub(crate) fn of(added: Arc<Record>, front: Front<J>) -> Addition<J>
+    pub(crate) fn of(added: Arc<Record>, front: Front<B>) -> Addition<B>
         requires { slice_get front (length front - 1) ≡ Some (arc_value added) }
         ensures { result ≡ front }
     {
@@ -100,7 +101,7 @@ impl<J: BoardLog> Addition<J> {
     }
 
     /// An addition that adds nothing. The room in which one is kept until it is in both copies is taken by it.
-    pub(crate) fn idle(front: Front<J>) -> Addition<J>
+    pub(crate) fn idle(front: Front<B>) -> Addition<B>
         requires { front ≡ [] }
         ensures { result ≡ [] }
     {
@@ -111,7 +112,7 @@ impl<J: BoardLog> Addition<J> {
     }
 }
 
-impl<J: BoardLog> Absorb<Addition<J>> for ListCopy<J> {
+impl<B: Board> Absorb<Addition<B>> for ListCopy<B> {
     // A clause reads an array as a list, of any length.
     type State = [Record; 0];
 
@@ -121,8 +122,8 @@ impl<J: BoardLog> Absorb<Addition<J>> for ListCopy<J> {
 
     fn absorb_first(
         &mut self,
-        operation: &Addition<J>,
-        _other: &ListCopy<J>,
+        operation: &Addition<B>,
+        _other: &ListCopy<B>,
     ) -> Result<(), AllocError> {
         if operation.front.len() != self.front.len() + 1 {
             return Ok(());

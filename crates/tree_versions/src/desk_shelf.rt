@@ -3,10 +3,9 @@ ghost use Rattle.std.specs.Prelude.{◌≡◌};
 ghost use Rattle.tree_versions.specs.Facts.{sound_shelf_is_fact};
 ghost use Rattle.tree_versions.specs.Solo.{IsSoundShelf};
 
-use crate::front::BoardLog;
+use crate::board::Board;
 use crate::publisher::{BoardFault, BoardWriter, Publisher};
 use crate::seat::Seat;
-use crate::seat_ledger::SeatLedger;
 use crate::{MOST_RECORDS, PublishFault, Record, Shelf};
 use std::alloc::Global;
 use std::sync::{Arc, Wait};
@@ -14,22 +13,22 @@ use std::sync::{Arc, Wait};
 /// The shelf of one desk: a seat, and what publishes on its board. Others publish there too. The allocator and the
 /// handle are kept, since the calls of a shelf are given none.
 #[derive(Drop)]
-pub struct DeskShelf<'a, J: BoardLog, L: SeatLedger, W, R> {
-    seat: Seat<J, L>,
-    publisher: &'a Publisher<J, L, W>,
+pub struct DeskShelf<'a, B: Board, W, R> {
+    seat: Seat<B>,
+    publisher: &'a Publisher<B, W>,
     alloc: Global,
     rt: &'a R,
     ghost sound: { IsSoundShelf seat.seen } by { sound_shelf_is_fact seat.seen },
 }
 
-impl<'a, J: BoardLog, L: SeatLedger, W, R> DeskShelf<'a, J, L, W, R> {
+impl<'a, B: Board, W, R> DeskShelf<'a, B, W, R> {
     /// The shelf of a seat of this board.
     pub fn make(
         alloc: Global,
         rt: &'a R,
-        seat: Seat<J, L>,
-        publisher: &'a Publisher<J, L, W>,
-    ) -> DeskShelf<'a, J, L, W, R>
+        seat: Seat<B>,
+        publisher: &'a Publisher<B, W>,
+    ) -> DeskShelf<'a, B, W, R>
         ensures { result.seat ≡ seat }
     {
         prove!(seat.versions() <= MOST_RECORDS);
@@ -42,7 +41,7 @@ impl<'a, J: BoardLog, L: SeatLedger, W, R> DeskShelf<'a, J, L, W, R> {
     }
 
     /// Gives the seat back.
-    pub fn into_seat(self) -> Seat<J, L>
+    pub fn into_seat(self) -> Seat<B>
         ensures { result ≡ self.entry.seat }
     {
         let DeskShelf { seat, .. } = self;
@@ -50,8 +49,7 @@ impl<'a, J: BoardLog, L: SeatLedger, W, R> DeskShelf<'a, J, L, W, R> {
     }
 }
 
-impl<'a, J: BoardLog, L: SeatLedger, S: Wait + Drop, R: Wait> Shelf
-    for DeskShelf<'a, J, L, BoardWriter<J, S>, R> {
+impl<'a, B: Board, S: Wait + Drop, R: Wait> Shelf for DeskShelf<'a, B, BoardWriter<B, S>, R> {
     ghost use Rattle.std.specs.Prelude.{false};
 
     ghost seen = { λ shelf. shelf.seat.seen };

@@ -5,23 +5,13 @@ ghost use Rattle.tree_versions.specs.Records.{Grows};
 ghost use Rattle.tree_versions.specs.Solo.{IsSoundShelf};
 
 use crate::Record;
+use crate::board::Board;
 use crate::log_rule::{Add, NoGain, SoundLog};
 use logbook::{Offer, Seen, Start, Word};
-use std::marker::{Brand, Model, PhantomData};
-
-/// Which log the values of one board speak of. Two boards have two, so what belongs to the one is nothing of the
-/// other.
-pub trait BoardLog {
-    ghost use Rattle.logbook.specs.Pages.{Book};
-
-    ghost book: { Book };
-}
-
-impl BoardLog for Brand {
-    ghost book = { record { number = 0; log_name = 0; cells_name = 0 } };
-}
+use std::marker::{Model, PhantomData};
 
 /// A log without records, which belongs to no board yet.
+#[derive(Drop)]
 pub struct OpenedLog {
     word: Word<Record, u64, SoundLog>,
     seen: Seen<Record, u64, SoundLog>,
@@ -40,8 +30,8 @@ impl OpenedLog {
     }
 
     /// The length of the log, and a front without records.
-    pub(crate) fn named<J: BoardLog>(self) -> (LogLength<J>, Front<J>)
-        requires { self.seen.book ≡ J.book }
+    pub(crate) fn named<B: Board>(self) -> (LogLength<B>, Front<B>)
+        requires { self.seen.book ≡ B.log }
         ensures { result.1 ≡ [] }
     {
         let OpenedLog { word, seen } = self;
@@ -60,22 +50,22 @@ impl OpenedLog {
 
 /// The word that all share: how many records the log has.
 #[derive(Drop)]
-pub struct LogLength<J: BoardLog> {
+pub struct LogLength<B: Board> {
     word: Word<Record, u64, SoundLog>,
-    of: PhantomData<J>,
-    ghost word_is: { word ≡ word_of J.book },
+    of: PhantomData<B>,
+    ghost word_is: { word ≡ word_of B.log },
 }
 
 /// A front of the log that was seen: the log begins with these records for good. It has no records at run time, only
 /// their number. Contracts see their views.
 #[derive(Drop)]
-pub struct Front<J: BoardLog> {
+pub struct Front<B: Board> {
     count: u64,
     seen: Seen<Record, u64, SoundLog>,
-    of: PhantomData<J>,
+    of: PhantomData<B>,
 }
 
-impl<J: BoardLog> Model for Front<J> {
+impl<B: Board> Model for Front<B> {
     ghost use Rattle.std.specs.Prelude.{◌≡◌, List, length};
     ghost use Rattle.tree_versions.specs.Records.{RecordView};
     ghost use Rattle.tree_versions.specs.Solo.{IsSoundShelf};
@@ -84,11 +74,11 @@ impl<J: BoardLog> Model for Front<J> {
 
     ghost view = { λ front. front.seen.log };
 
-    ghost invariant = { λ front. (front.count ≡ length front.seen.log) × (front.seen.book ≡ J.book)
+    ghost invariant = { λ front. (front.count ≡ length front.seen.log) × (front.seen.book ≡ B.log)
         × IsSoundShelf front.seen.log };
 }
 
-impl<J: BoardLog> Front<J> {
+impl<B: Board> Front<B> {
     /// How many records it has.
     pub(crate) fn len(&self) -> u64
         ensures count { result ≡ length self.now }
@@ -98,7 +88,7 @@ impl<J: BoardLog> Front<J> {
     }
 
     /// The same front once more.
-    pub(crate) fn again(&self) -> Front<J>
+    pub(crate) fn again(&self) -> Front<B>
         ensures { result ≡ self.now }
     {
         Front {
@@ -109,7 +99,7 @@ impl<J: BoardLog> Front<J> {
     }
 
     /// The longer one of two fronts: both begin one log, so it begins with the other.
-    pub(crate) fn longer(&self, other: &Front<J>) -> Front<J>
+    pub(crate) fn longer(&self, other: &Front<B>) -> Front<B>
         ensures one { (result ≡ self.now) ⊎ (result ≡ other.now) }
         ensures this { Grows self.now result }
         ensures that { Grows other.now result }
@@ -126,7 +116,7 @@ impl<J: BoardLog> Front<J> {
 
     /// Adds a record to the log behind all that was seen, and says whether it did. It didn't where the log is
     /// longer than this front.
-    pub(crate) fn add(&mut self, length: &LogLength<J>, added: &Record) -> bool
+    pub(crate) fn add(&mut self, length: &LogLength<B>, added: &Record) -> bool
         requires { MayFollow self.old added.now }
         ensures { MatchBool result (self.new ≡ self.old ++ added.now ∷ []) (IsLonger self.old self.new) }
     {

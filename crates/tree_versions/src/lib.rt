@@ -6,6 +6,7 @@
 //! `Publisher` adds to the list for all. A `DeskShelf` is a seat as a shelf.
 #![tactic(auto)]
 
+mod board;
 mod closing;
 mod copies;
 mod desk_shelf;
@@ -16,21 +17,20 @@ mod opening;
 mod publisher;
 mod record;
 mod seat;
-mod seat_ledger;
 mod shelf;
 mod solo;
 #[cfg(test)]
 mod tests;
 
+pub use board::Board;
 pub use closing::close_board;
 pub use copies::{Addition, ListCopy};
 pub use desk_shelf::DeskShelf;
-pub use front::{BoardLog, OpenedLog};
+pub use front::OpenedLog;
 pub use note::Note;
 pub use opening::{MOST_DESKS, make_board};
 pub use publisher::{BoardFault, BoardWriter, Publisher, WriterSide};
 pub use record::Record;
 pub use seat::Seat;
-pub use seat_ledger::SeatLedger;
 pub use shelf::{MOST_RECORDS, PublishFault, Shelf};
 pub use solo::SoloShelf;

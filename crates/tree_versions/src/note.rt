@@ -5,18 +5,19 @@ ghost use Rattle.tree_versions.specs.Solo.{IsSoundShelf, views_of};
 ghost use Rattle.tree_versions.specs.declared.shelf.TheConstants.{MOST_RECORDS};
 
 use crate::Record;
-use crate::front::{BoardLog, Front};
+use crate::board::Board;
+use crate::front::Front;
 use std::marker::Model;
 use std::sync::Arc;
 
 /// The records of a board up to a version, which its publisher tells to a seat. Contracts see their views.
 #[derive(Drop)]
-pub struct Note<J: BoardLog> {
+pub struct Note<B: Board> {
     pub(crate) records: Vec<Arc<Record>>,
-    pub(crate) front: Front<J>,
+    pub(crate) front: Front<B>,
 }
 
-impl<J: BoardLog> Model for Note<J> {
+impl<B: Board> Model for Note<B> {
     ghost use Rattle.std.specs.Prelude.{◌≡◌, ◌≤◌, List, vec_capacity};
     ghost use Rattle.tree_versions.specs.Records.{RecordView};
     ghost use Rattle.tree_versions.specs.Solo.{views_of};
@@ -30,9 +31,9 @@ impl<J: BoardLog> Model for Note<J> {
         × (MOST_RECORDS ≤ vec_capacity note.records) };
 }
 
-impl<J: BoardLog> Note<J> {
+impl<B: Board> Note<B> {
     /// A note of records and the front that they are.
-    pub(crate) fn make(records: Vec<Arc<Record>>, front: Front<J>) -> Note<J>
+    pub(crate) fn make(records: Vec<Arc<Record>>, front: Front<B>) -> Note<B>
         requires records { views_of records.items ≡ front }
         requires room { MOST_RECORDS ≤ vec_capacity records }
         ensures { result ≡ front }

@@ -4,11 +4,11 @@ ghost use Rattle.tree_versions.specs.Boards.{IsNew};
 ghost use Rattle.tree_versions.specs.declared.opening.TheConstants.{MOST_DESKS};
 
 use crate::MOST_RECORDS;
+use crate::board::Board;
 use crate::copies::{Addition, ListCopy};
-use crate::front::{BoardLog, Front, OpenedLog};
+use crate::front::{Front, OpenedLog};
 use crate::publisher::{BoardWriter, Publisher, Tally, WriterSide};
 use crate::seat::Seat;
-use crate::seat_ledger::SeatLedger;
 use cut_model::NoMemory;
 use left_right::WriteHandle;
 use std::alloc::Global;
@@ -19,13 +19,13 @@ use std::sync::{Mutex, Wait};
 pub const MOST_DESKS: u32 = 8;
 
 /// As many seats as can be had, of those that are wanted.
-fn make_seats<J: BoardLog, L: SeatLedger, R: Wait + Drop>(
+fn make_seats<B: Board, R: Wait + Drop>(
     alloc: Global,
-    writer: &BoardWriter<J, R>,
-    front: &Front<J>,
-    rest: &mut Share<L>,
+    writer: &BoardWriter<B, R>,
+    front: &Front<B>,
+    rest: &mut Share<B>,
     desks: u32,
-) -> Result<Vec<Seat<J, L>>, NoMemory>
+) -> Result<Vec<Seat<B>>, NoMemory>
     requires front { front.now ≡ [] }
     requires parts { desks < rest.old.parts }
     requires idle { rest.old.amount ≡ 0 }
@@ -53,27 +53,27 @@ fn make_seats<J: BoardLog, L: SeatLedger, R: Wait + Drop>(
 ///
 /// # Errors
 /// [`NoMemory`] where that memory can't be had.
-pub fn make_board<J: BoardLog, L: SeatLedger, R: Wait + Drop>(
+pub fn make_board<B: Board, R: Wait + Drop>(
     alloc: Global,
     rt: R,
     desks: u32,
     opened: OpenedLog,
     blank: Blank,
-) -> Result<(Publisher<J, L, BoardWriter<J, R>>, Vec<Seat<J, L>>), NoMemory>
+) -> Result<(Publisher<B, BoardWriter<B, R>>, Vec<Seat<B>>), NoMemory>
     requires some { 0 < desks }
     requires most { desks ≤ MOST_DESKS }
-    requires log { opened.seen.book ≡ J.book }
-    requires name { blank.name ≡ L.name }
-    requires parts { blank.parts ≡ L.parts }
-    requires all { L.all ≡ L.parts }
-    requires room { MOST_DESKS < L.parts }
+    requires log { opened.seen.book ≡ B.log }
+    requires name { blank.name ≡ B.name }
+    requires parts { blank.parts ≡ B.parts }
+    requires all { B.all ≡ B.parts }
+    requires room { MOST_DESKS < B.parts }
     ensures some { IfOk result (λ board. 0 < length board.1.items) }
     ensures most { IfOk result (λ board. length board.1.items ≤ desks) }
     ensures seats { IfOk result (λ board. length board.1.items ≡ board.0.seats) }
     ensures new { IfOk result (λ board. All IsNew board.1.items) }
 {
-    let (length, front) = opened.named::<J>();
-    let (book, mut rest) = blank.open::<L>();
+    let (length, front) = opened.named::<B>();
+    let (book, mut rest) = blank.open::<B>();
     let first = ListCopy::make(
         Vec::with_capacity(alloc, MOST_RECORDS as usize)?,
         front.again(),

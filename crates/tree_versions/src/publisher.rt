@@ -8,11 +8,11 @@ ghost use Rattle.tree_versions.specs.Publishing.{Places, Refuses, Shows, TellsOf
 ghost use Rattle.tree_versions.specs.Records.{Grows};
 ghost use Rattle.tree_versions.specs.declared.shelf.TheConstants.{MOST_RECORDS};
 
+use crate::board::Board;
 use crate::copies::{Addition, ListCopy};
-use crate::front::{BoardLog, Front, LogLength};
+use crate::front::{Front, LogLength};
 use crate::note::{Note, take_rest};
 use crate::seat::Seat;
-use crate::seat_ledger::SeatLedger;
 use crate::{MOST_RECORDS, Record};
 use left_right::WriteHandle;
 use std::alloc::Global;
@@ -20,43 +20,43 @@ use std::sync::ledger::{Book, Share};
 use std::sync::{Arc, Mutex, Wait};
 
 /// What writes the two copies of the list of a board.
-pub type BoardWriter<J, R> = WriteHandle<ListCopy<J>, Addition<J>, R>;
+pub type BoardWriter<B, R> = WriteHandle<ListCopy<B>, Addition<B>, R>;
 
 /// Why a record wasn't published on a board. It is handed back then.
 #[derive(Drop)]
-pub enum BoardFault<J: BoardLog> {
+pub enum BoardFault<B: Board> {
     /// As many records are held as can be, [`MOST_RECORDS`]: the note has them.
-    Full(Note<J>),
+    Full(Note<B>),
     /// Memory was wanted. Nothing was published.
     NoMemory,
 }
 
 /// What became of a record under the lock.
 #[derive(Drop)]
-pub(crate) enum Placed<J: BoardLog> {
-    Added(Note<J>),
-    Full(Note<J>),
+pub(crate) enum Placed<B: Board> {
+    Added(Note<B>),
+    Full(Note<B>),
     NoMemory,
 }
 
 /// How many records were published for all seats together: as many as the list has. The parts of the ledger that are
 /// with the seats aren't here.
 #[derive(Drop)]
-pub(crate) struct Tally<J: BoardLog, L: SeatLedger> {
-    pub(crate) front: Front<J>,
-    pub(crate) book: Book<L>,
-    pub(crate) rest: Share<L>,
+pub(crate) struct Tally<B: Board> {
+    pub(crate) front: Front<B>,
+    pub(crate) book: Book<B>,
+    pub(crate) rest: Share<B>,
     pub(crate) seats: u32,
     ghost counted: { book.total ≡ length front },
-    ghost whole: { rest.parts + seats ≡ L.all },
+    ghost whole: { rest.parts + seats ≡ B.all },
     ghost idle: { rest.amount ≡ 0 },
 }
 
 /// What lies under the lock of a board.
 #[derive(Drop)]
-pub struct WriterSide<J: BoardLog, L: SeatLedger, W> {
+pub struct WriterSide<B: Board, W> {
     pub(crate) writer: W,
-    pub(crate) tally: Tally<J, L>,
+    pub(crate) tally: Tally<B>,
 }
 
 /// Publishes the records of all desks of a board, one at a time. Its seats are those of the same log and ledger.
@@ -64,15 +64,15 @@ pub struct WriterSide<J: BoardLog, L: SeatLedger, W> {
 ///
 /// What writes is a parameter (`W`, a [`BoardWriter`]), since no struct can name the writer of a list that is generic.
 #[derive(Drop)]
-pub struct Publisher<J: BoardLog, L: SeatLedger, W> {
-    pub(crate) side: Mutex<WriterSide<J, L, W>>,
-    pub(crate) length: LogLength<J>,
+pub struct Publisher<B: Board, W> {
+    pub(crate) side: Mutex<WriterSide<B, W>>,
+    pub(crate) length: LogLength<B>,
     pub(crate) seats: u32,
 }
 
-impl<J: BoardLog, L: SeatLedger> Tally<J, L> {
+impl<B: Board> Tally<B> {
     /// Counts one record more, for the seat with this part.
-    fn add(&mut self, share: &mut Share<L>, next: &Front<J>)
+    fn add(&mut self, share: &mut Share<B>, next: &Front<B>)
         requires part { share.old.parts ≡ 1 }
         requires more { length next.now ≡ length self.old.front + 1 }
         ensures parts { share.new.parts ≡ share.old.parts }
@@ -91,10 +91,10 @@ impl<J: BoardLog, L: SeatLedger> Tally<J, L> {
 }
 
 /// Appends an addition, and tries until it is done.
-fn append<J: BoardLog, R: Wait + Drop, W: Wait>(
+fn append<B: Board, R: Wait + Drop, W: Wait>(
     rt: &W,
-    writer: &mut BoardWriter<J, R>,
-    addition: Addition<J>,
+    writer: &mut BoardWriter<B, R>,
+    addition: Addition<B>,
 )
     ensures published { published writer.new ≡ published writer.old }
     ensures pending { pending writer.new ≡ pending writer.old ++ addition ∷ [] }
@@ -110,7 +110,7 @@ fn append<J: BoardLog, R: Wait + Drop, W: Wait>(
 }
 
 /// Shows readers what is pending, and tries until it is done.
-pub(crate) fn show<J: BoardLog, R: Wait + Drop, W: Wait>(rt: &W, writer: &mut BoardWriter<J, R>)
+pub(crate) fn show<B: Board, R: Wait + Drop, W: Wait>(rt: &W, writer: &mut BoardWriter<B, R>)
     ensures shown { published writer.new ≡ fold with_addition (published writer.old) (pending writer.old) }
     ensures pending { pending writer.new ≡ [] }
 {
@@ -123,12 +123,12 @@ pub(crate) fn show<J: BoardLog, R: Wait + Drop, W: Wait>(rt: &W, writer: &mut Bo
 }
 
 /// A note of the published list, for a seat. There is none where a further owner of a record can't be had.
-fn note_for<J: BoardLog, L: SeatLedger, R: Wait + Drop>(
-    writer: &BoardWriter<J, R>,
-    tally: &Tally<J, L>,
-    seat: &Seat<J, L>,
+fn note_for<B: Board, R: Wait + Drop>(
+    writer: &BoardWriter<B, R>,
+    tally: &Tally<B>,
+    seat: &Seat<B>,
     room: Vec<Arc<Record>>,
-) -> Option<Note<J>>
+) -> Option<Note<B>>
     requires none { room.items ≡ [] }
     requires room { MOST_RECORDS ≤ vec_capacity room }
     ensures published { IfSome result (λ note. note ≡ published writer.now) }
@@ -148,14 +148,14 @@ fn note_for<J: BoardLog, L: SeatLedger, R: Wait + Drop>(
 }
 
 /// Publishes a record for a seat, where nothing is pending.
-fn place<J: BoardLog, L: SeatLedger, R: Wait + Drop, W: Wait>(
+fn place<B: Board, R: Wait + Drop, W: Wait>(
     rt: &W,
-    side: &mut WriterSide<J, L, BoardWriter<J, R>>,
-    log: &LogLength<J>,
-    seat: &mut Seat<J, L>,
+    side: &mut WriterSide<B, BoardWriter<B, R>>,
+    log: &LogLength<B>,
+    seat: &mut Seat<B>,
     new: &Arc<Record>,
     room: Vec<Arc<Record>>,
-) -> Placed<J>
+) -> Placed<B>
     requires pending { pending side.old.writer ≡ [] }
     requires none { room.items ≡ [] }
     requires room { MOST_RECORDS ≤ vec_capacity room }
@@ -189,7 +189,7 @@ fn place<J: BoardLog, L: SeatLedger, R: Wait + Drop, W: Wait>(
     Placed::Added(Note::make(records, front))
 }
 
-impl<J: BoardLog, L: SeatLedger, R: Wait + Drop> Publisher<J, L, BoardWriter<J, R>> {
+impl<B: Board, R: Wait + Drop> Publisher<B, BoardWriter<B, R>> {
     /// Publishes a record for a seat of the same board, and gives a note that has it at its end. The seat hasn't seen
     /// it before it learns the note. What the note needs is taken before the record is published.
     ///
@@ -200,9 +200,9 @@ impl<J: BoardLog, L: SeatLedger, R: Wait + Drop> Publisher<J, L, BoardWriter<J, 
         &self,
         alloc: Global,
         rt: &W,
-        seat: &mut Seat<J, L>,
+        seat: &mut Seat<B>,
         new: Arc<Record>,
-    ) -> Result<Note<J>, (BoardFault<J>, Arc<Record>)>
+    ) -> Result<Note<B>, (BoardFault<B>, Arc<Record>)>
         ensures told { IfOk result (λ note. TellsOf seat.old.seen note (arc_value new)) }
         ensures refused { IfErr result (λ refused. Refuses seat.old.seen refused.0) }
         ensures back { IfErr result (λ refused. refused.1 ≡ new) }

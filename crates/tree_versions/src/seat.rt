@@ -4,10 +4,10 @@ ghost use Rattle.tree_versions.specs.Records.{Grows, record_at as at_version};
 ghost use Rattle.tree_versions.specs.Solo.{IsSoundShelf, views_of};
 ghost use Rattle.tree_versions.specs.declared.shelf.TheConstants.{MOST_RECORDS};
 
+use crate::board::Board;
 use crate::copies::ListCopy;
-use crate::front::{BoardLog, Front};
+use crate::front::Front;
 use crate::note::{Note, take_rest};
-use crate::seat_ledger::SeatLedger;
 use crate::{MOST_RECORDS, Record};
 use left_right::ReadHandle;
 use std::marker::Model;
@@ -17,14 +17,14 @@ use std::sync::ledger::Share;
 /// A seat keeps the records of its board that it has seen, in room for as many as there may be, and one part of the
 /// ledger of the board. Contracts see a `SeatView`: the records, and how many were published for the seat.
 #[derive(Drop)]
-pub struct Seat<J: BoardLog, L: SeatLedger> {
-    reader: ReadHandle<ListCopy<J>>,
+pub struct Seat<B: Board> {
+    reader: ReadHandle<ListCopy<B>>,
     records: Vec<Arc<Record>>,
-    front: Front<J>,
-    pub(crate) share: Share<L>,
+    front: Front<B>,
+    pub(crate) share: Share<B>,
 }
 
-impl<J: BoardLog, L: SeatLedger> Model for Seat<J, L> {
+impl<B: Board> Model for Seat<B> {
     ghost use Rattle.std.specs.Prelude.{◌≡◌, ◌≤◌, vec_capacity};
     ghost use Rattle.tree_versions.specs.Boards.{SeatView};
     ghost use Rattle.tree_versions.specs.Solo.{views_of};
@@ -39,7 +39,7 @@ impl<J: BoardLog, L: SeatLedger> Model for Seat<J, L> {
 }
 
 /// Takes over what a copy has more than what is kept. All stays where a further owner of a record can't be had.
-fn take_over<J: BoardLog>(records: &mut Vec<Arc<Record>>, front: &mut Front<J>, copy: &ListCopy<J>)
+fn take_over<B: Board>(records: &mut Vec<Arc<Record>>, front: &mut Front<B>, copy: &ListCopy<B>)
     requires records { views_of records.old.items ≡ front.old }
     requires room { MOST_RECORDS ≤ vec_capacity records.old }
     ensures records { views_of records.new.items ≡ front.new }
@@ -55,14 +55,14 @@ fn take_over<J: BoardLog>(records: &mut Vec<Arc<Record>>, front: &mut Front<J>, 
     }
 }
 
-impl<J: BoardLog, L: SeatLedger> Seat<J, L> {
+impl<B: Board> Seat<B> {
     /// A seat that has seen these records.
     pub(crate) fn make(
-        reader: ReadHandle<ListCopy<J>>,
+        reader: ReadHandle<ListCopy<B>>,
         records: Vec<Arc<Record>>,
-        front: Front<J>,
-        share: Share<L>,
-    ) -> Seat<J, L>
+        front: Front<B>,
+        share: Share<B>,
+    ) -> Seat<B>
         requires records { views_of records.items ≡ front }
         requires room { MOST_RECORDS ≤ vec_capacity records }
         requires share { share.parts ≡ 1 }
@@ -77,14 +77,14 @@ impl<J: BoardLog, L: SeatLedger> Seat<J, L> {
     }
 
     /// What it has seen.
-    pub(crate) fn front(&self) -> &Front<J>
+    pub(crate) fn front(&self) -> &Front<B>
         ensures { result.now ≡ self.now.seen }
     {
         &self.front
     }
 
     /// Its part of the ledger.
-    pub(crate) fn into_share(self) -> Share<L>
+    pub(crate) fn into_share(self) -> Share<B>
         ensures parts { result.parts ≡ 1 }
         ensures amount { result.amount ≡ self.own }
     {
@@ -114,7 +114,7 @@ impl<J: BoardLog, L: SeatLedger> Seat<J, L> {
 
     /// Sees the records of a note of its board: `seat.look()` then gives the version of the note or a later one. It
     /// waits for nobody and takes no memory.
-    pub fn learn(&mut self, note: Note<J>)
+    pub fn learn(&mut self, note: Note<B>)
         ensures grows { Grows self.old.seen self.new.seen }
         ensures note { Grows note self.new.seen }
         ensures longer { length self.old.seen < length note → self.new.seen ≡ note }

@@ -5,8 +5,8 @@ ghost use Rattle.tree_versions.specs.declared.opening.TheConstants.{MOST_DESKS};
 ghost use Rattle.tree_versions.specs.declared.tests.TheConstants.{TURNS};
 
 use crate::{
-    BoardFault, BoardLog, BoardWriter, DeskShelf, MOST_DESKS, MOST_RECORDS, OpenedLog, Publisher,
-    Record, Seat, SeatLedger, Shelf, SoloShelf, close_board, make_board,
+    Board, BoardFault, BoardWriter, DeskShelf, MOST_DESKS, MOST_RECORDS, OpenedLog, Publisher,
+    Record, Seat, Shelf, SoloShelf, close_board, make_board,
 };
 use commit_rule::complete;
 use network_text::{Fed, Reader};
@@ -101,7 +101,7 @@ fn work_all<H: Shelf + Send, R: Threads + Sync>(rt: &R, desks: &mut [Desk<H>]) {
 }
 
 /// The desk of a seat.
-type SeatedDesk<'a, J, L, S, R> = Desk<DeskShelf<'a, J, L, BoardWriter<J, S>, R>>;
+type SeatedDesk<'a, B, S, R> = Desk<DeskShelf<'a, B, BoardWriter<B, S>, R>>;
 
 /// A desk that hasn't published yet.
 fn desk_of<H: Shelf + Drop>(alloc: Global, shelf: H, router: u8) -> Result<Desk<H>, Fail>
@@ -117,12 +117,12 @@ fn desk_of<H: Shelf + Drop>(alloc: Global, shelf: H, router: u8) -> Result<Desk<
 }
 
 /// A desk for each new seat. The list of seats is left empty, with its room.
-fn make_desks<'a, J: BoardLog, L: SeatLedger, S: Wait + Drop, R: Wait>(
+fn make_desks<'a, B: Board, S: Wait + Drop, R: Wait>(
     alloc: Global,
     rt: &'a R,
-    publisher: &'a Publisher<J, L, BoardWriter<J, S>>,
-    seats: &mut Vec<Seat<J, L>>,
-) -> Result<Vec<SeatedDesk<'a, J, L, S, R>>, Fail>
+    publisher: &'a Publisher<B, BoardWriter<B, S>>,
+    seats: &mut Vec<Seat<B>>,
+) -> Result<Vec<SeatedDesk<'a, B, S, R>>, Fail>
     requires { All IsNew seats.old.items }
     ensures count { IfOk result (λ desks. length desks.items ≡ length seats.old.items) }
     ensures none { IfOk result (λ _. seats.new.items ≡ []) }
@@ -138,9 +138,9 @@ fn make_desks<'a, J: BoardLog, L: SeatLedger, S: Wait + Drop, R: Wait>(
 }
 
 /// Gives the seats back. It tells how many records were accepted, and whether a desk met what was wrong.
-fn leave_desks<'a, J: BoardLog, L: SeatLedger, S: Wait + Drop, R: Wait>(
-    desks: Vec<SeatedDesk<'a, J, L, S, R>>,
-    seats: &mut Vec<Seat<J, L>>,
+fn leave_desks<'a, B: Board, S: Wait + Drop, R: Wait>(
+    desks: Vec<SeatedDesk<'a, B, S, R>>,
+    seats: &mut Vec<Seat<B>>,
 ) -> (u32, u32)
     requires few { length desks.items ≤ MOST_DESKS }
     requires none { seats.old.items ≡ [] }
@@ -167,20 +167,20 @@ fn leave_desks<'a, J: BoardLog, L: SeatLedger, S: Wait + Drop, R: Wait>(
 }
 
 /// The whole list of two desks, how many records they say were accepted, and whether one met what was wrong.
-fn work_two_desks<J: BoardLog + Send + Sync, L: SeatLedger + Send + Sync, R: Threads + Wait + Sync>(
+fn work_two_desks<B: Board + Send + Sync, R: Threads + Wait + Sync>(
     alloc: Global,
     rt: &R,
     opened: OpenedLog,
     blank: Blank,
 ) -> Result<(Vec<Arc<Record>>, u32, u32), Fail>
-    requires log { opened.seen.book ≡ J.book }
-    requires name { blank.name ≡ L.name }
-    requires parts { blank.parts ≡ L.parts }
-    requires all { L.all ≡ L.parts }
-    requires room { MOST_DESKS < L.parts }
+    requires log { opened.seen.book ≡ B.log }
+    requires name { blank.name ≡ B.name }
+    requires parts { blank.parts ≡ B.parts }
+    requires all { B.all ≡ B.parts }
+    requires room { MOST_DESKS < B.parts }
     ensures { IfOk result (λ done. done.1 ≡ length done.0.items) }
 {
-    let (publisher, mut seats) = make_board::<J, L, &R>(alloc, rt, 2, opened, blank)?;
+    let (publisher, mut seats) = make_board::<B, &R>(alloc, rt, 2, opened, blank)?;
     let mut desks = make_desks(alloc, rt, &publisher, &mut seats)?;
     work_all(rt, desks.as_mut_slice());
     let (accepted, wrong) = leave_desks(desks, &mut seats);
@@ -190,7 +190,7 @@ fn work_two_desks<J: BoardLog + Send + Sync, L: SeatLedger + Send + Sync, R: Thr
 #[test]
 fn what_two_desks_publish_stands_at_its_versions(rt: HostRuntime) -> Result<(), Fail> {
     let blank = Blank::new(u64::from(MOST_DESKS) + 1);
-    let (records, accepted, wrong) = work_two_desks::<Brand, Brand, _>(
+    let (records, accepted, wrong) = work_two_desks::<Brand, _>(
         rt.alloc(),
         &rt,
         OpenedLog::new(),
@@ -201,19 +201,19 @@ fn what_two_desks_publish_stands_at_its_versions(rt: HostRuntime) -> Result<(), 
 }
 
 /// A record is published for the first of three seats. The second sees it untold, the third learns it.
-fn look_from_three_seats<J: BoardLog, L: SeatLedger, R: Wait + Abort + AllocGlobal>(
+fn look_from_three_seats<B: Board, R: Wait + Abort + AllocGlobal>(
     rt: &R,
     opened: OpenedLog,
     blank: Blank,
 ) -> Result<(), Fail>
-    requires log { opened.seen.book ≡ J.book }
-    requires name { blank.name ≡ L.name }
-    requires parts { blank.parts ≡ L.parts }
-    requires all { L.all ≡ L.parts }
-    requires room { MOST_DESKS < L.parts }
+    requires log { opened.seen.book ≡ B.log }
+    requires name { blank.name ≡ B.name }
+    requires parts { blank.parts ≡ B.parts }
+    requires all { B.all ≡ B.parts }
+    requires room { MOST_DESKS < B.parts }
 {
     let alloc = rt.alloc();
-    let (publisher, mut seats) = make_board::<J, L, &R>(alloc, rt, 3, opened, blank)?;
+    let (publisher, mut seats) = make_board::<B, &R>(alloc, rt, 3, opened, blank)?;
     assert_eq!(rt; seats.len(), 3);
     let record = record_of(alloc, b'a')?;
     let Ok(note) = publisher.publish(alloc, rt, &mut seats[0], record) else {
@@ -232,23 +232,23 @@ fn look_from_three_seats<J: BoardLog, L: SeatLedger, R: Wait + Abort + AllocGlob
 #[test]
 fn a_seat_sees_what_it_was_not_told_of(rt: HostRuntime) -> Result<(), Fail> {
     let blank = Blank::new(u64::from(MOST_DESKS) + 1);
-    look_from_three_seats::<Brand, Brand, _>(&rt, OpenedLog::new(), blank)
+    look_from_three_seats::<Brand, _>(&rt, OpenedLog::new(), blank)
 }
 
 /// A board takes as many records as there may be, and hands the next one back.
-fn publish_one_too_many<J: BoardLog, L: SeatLedger, R: Wait + Abort + AllocGlobal>(
+fn publish_one_too_many<B: Board, R: Wait + Abort + AllocGlobal>(
     rt: &R,
     opened: OpenedLog,
     blank: Blank,
 ) -> Result<(), Fail>
-    requires log { opened.seen.book ≡ J.book }
-    requires name { blank.name ≡ L.name }
-    requires parts { blank.parts ≡ L.parts }
-    requires all { L.all ≡ L.parts }
-    requires room { MOST_DESKS < L.parts }
+    requires log { opened.seen.book ≡ B.log }
+    requires name { blank.name ≡ B.name }
+    requires parts { blank.parts ≡ B.parts }
+    requires all { B.all ≡ B.parts }
+    requires room { MOST_DESKS < B.parts }
 {
     let alloc = rt.alloc();
-    let (publisher, mut seats) = make_board::<J, L, &R>(alloc, rt, 1, opened, blank)?;
+    let (publisher, mut seats) = make_board::<B, &R>(alloc, rt, 1, opened, blank)?;
     let record = record_of(alloc, b'a')?;
     for _ in 0..MOST_RECORDS {
         let more = Arc::try_clone(&record)?;
@@ -272,5 +272,5 @@ fn publish_one_too_many<J: BoardLog, L: SeatLedger, R: Wait + Abort + AllocGloba
 #[test]
 fn a_board_is_full_at_256_records(rt: HostRuntime) -> Result<(), Fail> {
     let blank = Blank::new(u64::from(MOST_DESKS) + 1);
-    publish_one_too_many::<Brand, Brand, _>(&rt, OpenedLog::new(), blank)
+    publish_one_too_many::<Brand, _>(&rt, OpenedLog::new(), blank)
 }

@@ -1,4 +1,4 @@
-use Rattle.std.proofs.Common.{ℕ, ◌<◌, List, arith, get_or, length, refl, subst, sym}
+use Rattle.std.proofs.Common.{ℕ, List, arith, get_or, length, refl, subst, sym}
 use Rattle.std.proofs.lemmas.Option.{get_or_from_slice_get, slice_get_read}
 use Rattle.tree_versions.proofs.closing.know_fronts.Goals as goal
 use Rattle.tree_versions.specs.Boards.{SeatView, IsFrontOf}
