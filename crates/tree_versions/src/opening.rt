@@ -1,5 +1,6 @@
 //! A board is made.
 ghost use Rattle.std.specs.Prelude.{◌≡◌, ◌+◌, ◌<◌, ◌≤◌, [], All, IfOk, OnOk, length};
+ghost use Rattle.left_right.specs.Handles.{published};
 ghost use Rattle.tree_versions.specs.Boards.{IsNew};
 ghost use Rattle.tree_versions.specs.declared.opening.TheConstants.{MOST_DESKS};
 
@@ -17,6 +18,37 @@ use std::sync::{Mutex, Wait};
 
 /// The most desks that share a board.
 pub const MOST_DESKS: u32 = 8;
+
+/// A copy of a list without records, with room for all that there may be.
+fn make_copy<B: Board>(alloc: Global, front: Front<B>) -> Result<ListCopy<B>, NoMemory>
+    requires { front ≡ [] }
+    ensures { IfOk result (λ copy. copy ≡ []) }
+{
+    let records = Vec::with_capacity(alloc, MOST_RECORDS as usize)?;
+    Ok(ListCopy::make(records, front))
+}
+
+/// What writes the two copies of a list without records, for at most so many readers. The room in which an addition is
+/// pending is taken by a first one that adds nothing.
+fn make_writer<B: Board, R: Wait + Drop>(
+    alloc: Global,
+    rt: R,
+    front: &Front<B>,
+    readers: u32,
+) -> Result<BoardWriter<B, R>, NoMemory>
+    requires front { front.now ≡ [] }
+    requires some { 0 < readers }
+    ensures { IfOk result (λ writer. published writer ≡ []) }
+{
+    let first = make_copy(alloc, front.again())?;
+    let second = make_copy(alloc, front.again())?;
+    let mut writer = WriteHandle::new(alloc, rt, first, second, readers as usize)?;
+    if writer.append(Addition::idle(front.again())).is_err() {
+        return Err(NoMemory);
+    }
+    writer.publish()?;
+    Ok(writer)
+}
 
 /// As many seats as can be had, of those that are wanted.
 fn make_seats<B: Board, R: Wait + Drop>(
@@ -74,20 +106,7 @@ pub fn make_board<B: Board, R: Wait + Drop>(
 {
     let (length, front) = opened.named::<B>();
     let (book, mut rest) = blank.open::<B>();
-    let first = ListCopy::make(
-        Vec::with_capacity(alloc, MOST_RECORDS as usize)?,
-        front.again(),
-    );
-    let second = ListCopy::make(
-        Vec::with_capacity(alloc, MOST_RECORDS as usize)?,
-        front.again(),
-    );
-    let mut writer = WriteHandle::new(alloc, rt, first, second, desks as usize)?;
-    // The room in which an addition is pending is taken by the first one.
-    if writer.append(Addition::idle(front.again())).is_err() {
-        return Err(NoMemory);
-    }
-    writer.publish()?;
+    let writer = make_writer(alloc, rt, &front, desks)?;
     let made = make_seats(alloc, &writer, &front, &mut rest, desks)?;
     if made.is_empty() {
         return Err(NoMemory);

@@ -59,8 +59,8 @@ pub struct WriterSide<B: Board, W> {
     pub(crate) tally: Tally<B>,
 }
 
-/// Publishes the records of all desks of a board, one at a time. Its seats are those of the same log and ledger.
-/// Contracts see how many there are.
+/// Publishes the records of all desks of a board, one at a time. Desks share it by reference. `seats` is how many seats
+/// were made with it.
 ///
 /// What writes is a parameter (`W`, a [`BoardWriter`]), since no struct can name the writer of a list that is generic.
 #[derive(Drop)]
