@@ -1,5 +1,5 @@
 -- What publishing a record on a board does.
-use Rattle.std.specs.Prelude.{◌≡◌, ℕ, ◌+◌, ◌<◌, List, Some, length}
+use Rattle.std.specs.Prelude.{◌≡◌, ℕ, ◌+◌, ◌<◌, List, [], ◌∷◌, ◌++◌, Some, length}
 use Rattle.tree_versions.specs.Records.{RecordView, Grows, record_at}
 use Rattle.tree_versions.specs.declared.shelf.TheConstants.{MOST_RECORDS}
 use Rattle.tree_versions.specs.declared.publisher.BoardFault.{BoardFault}
@@ -20,18 +20,19 @@ pub record TellsFull (seen note : List RecordView) : Type 0 where
   pub full : length note ≡ MOST_RECORDS
 
 -- Why a record was refused. Want of memory is free.
-abbrev pub Refuses : {J : Type 0} → List RecordView → BoardFault J → Type 0
+abbrev pub Refuses : {B : Type 0} → List RecordView → BoardFault B → Type 0
 Refuses seen (fault.Full note) = TellsFull seen note
 Refuses seen fault.NoMemory = Unit {0}
 
 -- What a step under the lock did with a record for a seat, and with the number of records of that seat.
-abbrev pub Places : {J : Type 0} → List RecordView → RecordView → ℕ → ℕ → Placed J → Type 0
+abbrev pub Places : {B : Type 0} → List RecordView → RecordView → ℕ → ℕ → Placed B → Type 0
 Places seen added before after (placed.Added note) = TellsOf seen note added × (after ≡ before + 1)
 Places seen added before after (placed.Full note) = TellsFull seen note × (after ≡ before)
 Places seen added before after placed.NoMemory = after ≡ before
 
--- What a step under the lock told is what readers may take from then on: nothing stays pending behind it.
-abbrev pub Shows : {J : Type 0} → List RecordView → Placed J → Type 0
-Shows list (placed.Added note) = list ≡ note
-Shows list (placed.Full note) = list ≡ note
-Shows list placed.NoMemory = Unit {0}
+-- What a step under the lock did to the list that readers may take: the record stands behind it, or it stays. The note
+-- tells that list.
+abbrev pub Shows : {B : Type 0} → List RecordView → List RecordView → RecordView → Placed B → Type 0
+Shows old new added (placed.Added note) = (new ≡ old ++ added ∷ []) × (note ≡ new)
+Shows old new added (placed.Full note) = (new ≡ old) × (note ≡ new)
+Shows old new added placed.NoMemory = new ≡ old

@@ -161,7 +161,8 @@ fn place<B: Board, R: Wait + Drop, W: Wait>(
     requires room { MOST_RECORDS ≤ vec_capacity room }
     ensures seen { seat.new.seen ≡ seat.old.seen }
     ensures placed { Places seat.old.seen (arc_value new.now) seat.old.own seat.new.own result }
-    ensures shown { Shows (published side.new.writer) result }
+    ensures shown { Shows (published side.old.writer) (published side.new.writer) (arc_value new.now) result }
+    ensures pending { pending side.new.writer ≡ [] }
 {
     let WriterSide { writer, tally } = side;
     let Some(note) = note_for(writer, tally, seat, room) else {
