@@ -13,7 +13,8 @@ use std::marker::Model;
 use std::net::{TcpListener, TcpStream};
 
 /// Gives the clients that connect to a listener, in the order in which the system hands them out. It never ends,
-/// and tells nothing of what its clients send and are sent.
+/// and tells nothing of what its clients send and are sent. A client that comes back is read out for a while where
+/// it hasn't ended, so `back` may wait, too.
 #[derive(Drop)]
 pub struct TcpDoor {
     listener: Option<TcpListener>,

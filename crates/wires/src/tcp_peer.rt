@@ -20,7 +20,8 @@ const PATIENCE: u64 = 1;
 /// How often a connection that is closed reads what the client still sends.
 const LAST_READS: u32 = 64;
 
-/// Reads what a client sends, and writes to it at once. It tells nothing of the bytes.
+/// Reads what a client sends, and writes to it at once. It tells nothing of the bytes. A read waits as long as
+/// the client sends nothing, and a put as long as the client takes nothing: neither gives up.
 ///
 /// A client that has sent all and still reads is at its end as a source, and can be written to. One that is
 /// gone without an end, as by a reset, is a failure of the call that meets it; the reads behind it fail too,
