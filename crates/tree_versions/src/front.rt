@@ -20,7 +20,7 @@ pub struct OpenedLog {
 }
 
 impl OpenedLog {
-    /// It takes no memory.
+    /// A log for one board, which takes it over. It takes no memory.
     pub fn new() -> OpenedLog {
         let (seen, mut pen, _) = Seen::open(Start::alone(), 0, 0);
         OpenedLog {

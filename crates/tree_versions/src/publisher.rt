@@ -192,7 +192,8 @@ fn place<B: Board, R: Wait + Drop, W: Wait>(
 
 impl<B: Board, R: Wait + Drop> Publisher<B, BoardWriter<B, R>> {
     /// Publishes a record for a seat of the same board, and gives a note that has it at its end. The seat hasn't seen
-    /// it before it learns the note. What the note needs is taken before the record is published.
+    /// it before it learns the note. What the note needs is taken before the record is published. It makes one step for
+    /// each record of the list, and waits for others who publish, and for looks that are in the copy that it writes.
     ///
     /// # Errors
     /// [`BoardFault::Full`] exactly where [`MOST_RECORDS`] records are held, and [`BoardFault::NoMemory`] where memory

@@ -98,8 +98,8 @@ impl<B: Board> Seat<B> {
     }
 
     /// Sees what others have published, and tells how many records are seen: `seat.look()` gives 0 on a new board.
-    /// It waits for nobody and takes no memory. All stays as it was where the list can't be entered, or where a further
-    /// owner of a record can't be had.
+    /// It waits for nobody, takes no memory, and makes a step for each record that is new to the seat. All stays as it
+    /// was where the list can't be entered, or where a further owner of a record can't be had.
     pub fn look(&mut self) -> u32
         ensures grows { Grows self.old.seen self.new.seen }
         ensures count { result ≡ length self.new.seen }
