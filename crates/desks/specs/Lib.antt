@@ -1,0 +1,4 @@
+pub mod Visits
+pub mod Doors
+pub mod Desks
+pub mod Boards

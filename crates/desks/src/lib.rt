@@ -1,0 +1,9 @@
+//! Desks that serve the clients of doors at the same time, over one list of records.
+#![tactic(auto)]
+
+mod board;
+mod desk;
+mod doors;
+mod seating;
+
+pub use board::{Opening, Served, serve_doors};
