@@ -2,7 +2,7 @@
 use Rattle.std.specs.Prelude.{ℕ}
 use Rattle.planner_server.specs.declared.outcome.Status.{Status}
 use Rattle.planner_server.specs.declared.outcome.Status.TheVariants.{Done, BadWords, ReadFault}
-use Rattle.planner_server.specs.declared.outcome.Status.TheVariants.{WriteFault, NoMemory, TooLong, NotAccepted}
+use Rattle.planner_server.specs.declared.outcome.Status.TheVariants.{WriteFault, NoMemory, TooLong, DoorFault, NotAccepted}
 
 -- the exit status that stands for a status of a run
 abbrev pub exit_code : Status → ℕ
@@ -12,4 +12,5 @@ exit_code ReadFault = 2
 exit_code WriteFault = 3
 exit_code NoMemory = 4
 exit_code TooLong = 5
+exit_code DoorFault = 6
 exit_code NotAccepted = 7

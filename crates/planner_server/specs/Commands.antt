@@ -8,11 +8,15 @@ use Rattle.job_queue.specs.declared.jobs.TheConstants.{MOST_WORKERS}
 use Rattle.made_networks.specs.declared.draws.TheConstants.{MOST_SEED}
 use Rattle.planner_server.specs.Options.{are_options, given_in}
 use Rattle.planner_server.specs.declared.command.Command.{Command}
-use Rattle.planner_server.specs.declared.command.Command.TheVariants.{Plan, Check, Make}
+use Rattle.planner_server.specs.declared.command.Command.TheVariants.{Plan, Check, Make, Serve}
 use Rattle.planner_server.specs.declared.command.Making.{Making}
+use Rattle.planner_server.specs.declared.command.Serving.{Serving}
 use Rattle.planner_server.specs.declared.options.Given.{Given}
 use Rattle.planner_server.specs.declared.options.Given.TheVariants.{Missing, Number, Wrong}
 use Rattle.planner_server.specs.declared.options.OptionName.TheVariants.{Workers, Seed, Routers, Links}
+use Rattle.planner_server.specs.declared.options.OptionName.TheVariants.{Port, Desks, Sessions}
+use Rattle.planner_server.specs.declared.options.TheConstants.{MOST_PORT, MOST_SESSIONS}
+use Rattle.tree_versions.specs.declared.opening.TheConstants.{MOST_DESKS}
 
 -- the number of an option that may be missing, and is then the usual one; none where it is given wrongly
 abbrev pub number_or : ℕ → Given → Option ℕ
@@ -60,6 +64,39 @@ pub record IsInRanges (making : Making) : Type 0 where
   pub some : 1 ≤ making.workers
   pub most_workers : making.workers ≤ MOST_WORKERS
 
+-- how `serve` is asked to serve by its four numbers, if each is told
+abbrev pub serving_by : Option ℕ → Option ℕ → Option ℕ → Option ℕ → Option Serving
+serving_by (Some port) (Some desks) (Some sessions) (Some workers) =
+    Some record { port = port; desks = desks; sessions = sessions; workers = workers }
+serving_by port desks sessions workers = None
+
+-- how these options ask `serve` to serve: three numbers that must stand there, and one worker where they say no other
+-- number
+abbrev pub serving_of : List (List ℕ) → Option Serving
+serving_of options = serving_by (needed (given_in Port options)) (needed (given_in Desks options))
+    (needed (given_in Sessions options)) (number_or 1 (given_in Workers options))
+
+-- `serve` with these options
+abbrev pub serve_of : List (List ℕ) → Option Command
+serve_of options =
+    if are_options (Port ∷ Desks ∷ Sessions ∷ Workers ∷ []) options then option_map Serve (serving_of options) else None
+
+-- how `serve` is asked to serve is within the limits
+pub record IsOpen (serving : Serving) : Type 0 where
+  pub some_port : 1 ≤ serving.port
+  pub most_port : serving.port ≤ MOST_PORT
+  pub some_desks : 1 ≤ serving.desks
+  pub most_desks : serving.desks ≤ MOST_DESKS
+  pub some_sessions : 1 ≤ serving.sessions
+  pub most_sessions : serving.sessions ≤ MOST_SESSIONS
+  pub some_workers : 1 ≤ serving.workers
+  pub most_workers : serving.workers ≤ MOST_WORKERS
+
+-- the port and the desks of `serve`
+abbrev pub place_of : Option Command → Option (ℕ × ℕ)
+place_of (Some (Serve serving)) = Some (serving.port, serving.desks)
+place_of command = None
+
 -- the command that the words name, if they name one
 abbrev pub command_of : List (List ℕ) → Option Command
 command_of [] = None
@@ -67,4 +104,5 @@ command_of (name ∷ options) =
     if bytes_eq name (codes "plan") then plan_of options
     else if bytes_eq name (codes "check") then check_of options
     else if bytes_eq name (codes "make") then make_of options
+    else if bytes_eq name (codes "serve") then serve_of options
     else None

@@ -6,11 +6,13 @@ use Rattle.std.specs.declared.option.Option.{Option}
 use Rattle.planner_server.specs.declared.options.Given.{Given}
 use Rattle.planner_server.specs.declared.options.Given.TheVariants.{Missing, Number, Wrong}
 use Rattle.planner_server.specs.declared.options.OptionName.{OptionName}
-use Rattle.planner_server.specs.declared.options.OptionName.TheVariants.{Workers, Seed, Routers, Links}
+use Rattle.planner_server.specs.declared.options.OptionName.TheVariants.{Workers, Seed, Routers, Links, Port, Desks, Sessions}
 use Rattle.cut_model.specs.declared.network.TheConstants.{MOST_LINKS, MOST_ROUTERS}
 use Rattle.job_queue.specs.declared.jobs.TheConstants.{MOST_WORKERS}
 use Rattle.made_networks.specs.declared.draws.TheConstants.{MOST_SEED}
+use Rattle.planner_server.specs.declared.options.TheConstants.{MOST_PORT, MOST_SESSIONS}
 use Rattle.text_forms.specs.Numbers.{number_in}
+use Rattle.tree_versions.specs.declared.opening.TheConstants.{MOST_DESKS}
 
 -- what a word of this option begins with
 abbrev pub spelling_of : OptionName → List ℕ
@@ -18,6 +20,9 @@ spelling_of Workers = codes "--workers="
 spelling_of Seed = codes "--seed="
 spelling_of Routers = codes "--routers="
 spelling_of Links = codes "--links="
+spelling_of Port = codes "--port="
+spelling_of Desks = codes "--desks="
+spelling_of Sessions = codes "--sessions="
 
 -- the least number that the option takes
 abbrev pub least_of : OptionName → ℕ
@@ -25,6 +30,9 @@ least_of Workers = 1
 least_of Seed = 0
 least_of Routers = 2
 least_of Links = 0
+least_of Port = 1
+least_of Desks = 1
+least_of Sessions = 1
 
 -- the greatest number that the option takes
 abbrev pub most_of : OptionName → ℕ
@@ -32,6 +40,9 @@ most_of Workers = MOST_WORKERS
 most_of Seed = MOST_SEED
 most_of Routers = MOST_ROUTERS
 most_of Links = MOST_LINKS
+most_of Port = MOST_PORT
+most_of Desks = MOST_DESKS
+most_of Sessions = MOST_SESSIONS
 
 -- a word of this option
 abbrev pub is_of : OptionName → List ℕ → Bool

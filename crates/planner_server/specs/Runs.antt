@@ -1,21 +1,25 @@
 -- What a run of a command leaves.
-use Rattle.std.specs.Prelude.{◌≡◌, ℕ, ◌<◌, ◌≤◌, ◌⊎◌, List, [], ◌++◌, length, take, true, false, Some, None}
+use Rattle.std.specs.Prelude.{◌≡◌, ℕ, ◌<◌, ◌≤◌, ◌⊎◌, List, [], ◌∷◌, ◌++◌, Bool, codes, decimal, length, take, true, false, Some, None}
 use Rattle.std.specs.Io.KnownBytes.{Appends}
+use Rattle.std.specs.List.{concat}
 use Rattle.std.specs.declared.option.Option.{Option}
 use Rattle.certifier.specs.Certificates.{verdict_on}
 use Rattle.certifier.specs.Checks.{Checks, Tells}
 use Rattle.certifier.specs.declared.checking.CheckEnd.{CheckEnd}
 use Rattle.certifier.specs.declared.checking.CheckEnd.TheVariants as check_ends
+use Rattle.desks.specs.Boards.{DoorsServed}
+use Rattle.desks.specs.Doors.{DoorView}
 use Rattle.line_reader.specs.declared.reader.TheConstants.{MOST_BYTES}
 use Rattle.made_networks.specs.Draws.{made_net}
 use Rattle.made_networks.specs.Summaries.{IsSummaryOf, summary_text}
 use Rattle.made_networks.specs.declared.summary.Summary.{Summary}
 use Rattle.planner_server.specs.declared.command.Command.{Command}
-use Rattle.planner_server.specs.declared.command.Command.TheVariants.{Plan, Check, Make}
+use Rattle.planner_server.specs.declared.command.Command.TheVariants.{Plan, Check, Make, Serve}
 use Rattle.planner_server.specs.declared.command.Making.{Making}
+use Rattle.planner_server.specs.declared.command.Serving.{Serving}
 use Rattle.planner_server.specs.declared.outcome.Status.{Status}
 use Rattle.planner_server.specs.declared.outcome.Status.TheVariants.{Done, BadWords, ReadFault, WriteFault}
-use Rattle.planner_server.specs.declared.outcome.Status.TheVariants.{NoMemory, TooLong, NotAccepted}
+use Rattle.planner_server.specs.declared.outcome.Status.TheVariants.{DoorFault, NoMemory, TooLong, NotAccepted}
 use Rattle.planner_server.specs.Statuses.{check_status}
 use Rattle.session.specs.Answers.{Alone}
 use Rattle.session.specs.Sessions.{Breaks, Ends, IsComplete, IsCutShort, IsTooLong, Moment}
@@ -82,6 +86,7 @@ PlanEnds TooLong run = AnswersItems (IsTooLong run.now.wire) run
 PlanEnds WriteFault run = AnswersFront run
 PlanEnds NoMemory run = Unit {0}
 PlanEnds BadWords run = ⊥
+PlanEnds DoorFault run = ⊥
 PlanEnds NotAccepted run = ⊥
 
 -- A session over the source and the sink. Where the source tells that it has fewer than MOST_BYTES left and nothing
@@ -135,6 +140,7 @@ MakeEnds making NoMemory before now = now ≡ before
 MakeEnds making BadWords before now = ⊥
 MakeEnds making ReadFault before now = ⊥
 MakeEnds making TooLong before now = ⊥
+MakeEnds making DoorFault before now = ⊥
 MakeEnds making NotAccepted before now = ⊥
 
 -- The summary of the network that is asked for was written, as the end says. Where no put fails it is written, unless
@@ -147,22 +153,85 @@ pub record MakeRan (making : Making) (status : Status) (run : RunView) : Type 0 
   pub reads : run.now.read_faults ≡ run.start.read_faults
   pub no_record : run.records ≡ []
 
--- At this end nothing was read or written: where there is no command, and where `plan` or `make` had no memory.
+-- What the doors of a run showed before, and show now.
+pub record DoorsView : Type 0 where
+  pub olds : List DoorView
+  pub news : List DoorView
+
+-- The text of the last line of `serve`: how many sessions ended, and how many records there are.
+unfoldable pub served_text : ℕ → ℕ → List ℕ
+served_text sessions versions =
+    concat (codes "served " ∷ decimal sessions ∷ codes " versions " ∷ decimal versions ∷ codes "\n" ∷ [])
+
+-- A front of a text was written.
+pub record AppendsFront (before now : Option (List ℕ)) (text : List ℕ) : Type 0 where
+  pub count : ℕ
+  pub most : count ≤ length text
+  pub wrote : Appends before now (take count text)
+
+-- What a sink shows: the bytes that were written, and how often it has failed.
+pub record SinkView : Type 0 where
+  pub written : Option (List ℕ)
+  pub faults : ℕ
+
+-- that of an object
+abbrev pub sink_view : {K : Type 0} → SinkGhosts K → K → SinkView
+sink_view h sink = record { written = h.written sink; faults = h.write_faults sink }
+
+-- The first doors were served, as many as there are desks at most, over the records that are handed back, and P holds of
+-- the last line.
+pub record Serves (serving : Serving) (records : List RecordView) (doors : DoorsView) (failed : Bool)
+    (P : List ℕ → Type 0) : Type 0 where
+  pub clients : ℕ
+  pub served : DoorsServed serving.sessions serving.desks records doors.olds doors.news clients failed
+  pub line : P (served_text clients (length records))
+
+-- what was done in a run of `serve` that ended so, and what the sink showed before and shows now
+abbrev pub ServeEnds : Serving → Status → List RecordView → DoorsView → SinkView → SinkView → Type 0
+ServeEnds serving Done records doors before now =
+    Serves serving records doors false (λ line. Appends before.written now.written line)
+ServeEnds serving WriteFault records doors before now =
+    Serves serving records doors false (λ line. AppendsFront before.written now.written line)
+ServeEnds serving DoorFault records doors before now = Serves serving records doors true
+    (λ line. Appends before.written now.written line
+    ⊎ (Rose before.faults now.faults × AppendsFront before.written now.written line))
+ServeEnds serving NoMemory records doors before now = (doors.news ≡ doors.olds) × (records ≡ [])
+ServeEnds serving BadWords records doors before now = ⊥
+ServeEnds serving ReadFault records doors before now = ⊥
+ServeEnds serving TooLong records doors before now = ⊥
+ServeEnds serving NotAccepted records doors before now = ⊥
+
+-- The doors were served, as the end says. Where no put fails, the last line was written whole, unless memory was wanted.
+pub record ServeRan (serving : Serving) (status : Status) (run : RunView) (doors : DoorsView) : Type 0 where
+  pub ends : ServeEnds serving status run.records doors
+      (record { written = run.start.wire.written; faults = run.start.write_faults })
+      (record { written = run.now.wire.written; faults = run.now.write_faults })
+  pub completes : (WriteFailed run → ⊥) → (status ≡ WriteFault → ⊥)
+
+-- At this end nothing was read or written: where there is no command, and where `plan`, `make` or `serve` had no memory.
 abbrev pub IsUntouched : Option Command → Status → Type 0
 IsUntouched None status = Unit {0}
 IsUntouched (Some (Plan workers)) status = status ≡ NoMemory
 IsUntouched (Some Check) status = ⊥
 IsUntouched (Some (Make making)) status = status ≡ NoMemory
+IsUntouched (Some (Serve serving)) status = status ≡ NoMemory
 
--- A run reads nothing: where there is no command, and of `make`.
+-- A run reads nothing: where there is no command, and of `make` and `serve`.
 abbrev pub ReadsNothing : Option Command → Type 0
 ReadsNothing None = Unit {0}
 ReadsNothing (Some (Plan workers)) = ⊥
 ReadsNothing (Some Check) = ⊥
 ReadsNothing (Some (Make making)) = Unit {0}
+ReadsNothing (Some (Serve serving)) = Unit {0}
 
 -- the command was run, ended so, and met and left this
-abbrev pub Ran : Command → Status → RunView → Type 0
-Ran (Plan workers) status run = PlanRan status run
-Ran Check status run = CheckRan status run
-Ran (Make making) status run = MakeRan making status run
+abbrev pub Ran : Command → Status → RunView → DoorsView → Type 0
+Ran (Plan workers) status run doors = PlanRan status run
+Ran Check status run doors = CheckRan status run
+Ran (Make making) status run doors = MakeRan making status run
+Ran (Serve serving) status run doors = ServeRan serving status run doors
+
+-- A run asks no door: where there is no command, and of each command but `serve`.
+abbrev pub AsksNoDoor : Option Command → Type 0
+AsksNoDoor (Some (Serve serving)) = ⊥
+AsksNoDoor command = Unit {0}

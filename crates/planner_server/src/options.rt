@@ -10,6 +10,7 @@ use cut_model::{MOST_LINKS, MOST_ROUTERS};
 use job_queue::MOST_WORKERS;
 use made_networks::MOST_SEED;
 use text_forms::parse_number;
+use tree_versions::MOST_DESKS;
 
 /// The name of an option.
 #[derive(Clone, Copy)]
@@ -22,7 +23,19 @@ pub enum OptionName {
     Routers,
     /// How many links a made network has: 0 to 8192.
     Links,
+    /// On which port clients come: 1 to 65535.
+    Port,
+    /// How many desks serve clients at most: 1 to 8.
+    Desks,
+    /// How many clients of each door are served at most: 1 to 1000000.
+    Sessions,
 }
+
+/// The greatest number of a port.
+pub const MOST_PORT: u32 = 65_535;
+
+/// The most clients that are served of one door.
+pub const MOST_SESSIONS: u32 = 1_000_000;
 
 /// What the words of a command line give to an option.
 #[derive(Clone, Copy)]
@@ -45,6 +58,9 @@ impl OptionName {
             OptionName::Seed => b"--seed=",
             OptionName::Routers => b"--routers=",
             OptionName::Links => b"--links=",
+            OptionName::Port => b"--port=",
+            OptionName::Desks => b"--desks=",
+            OptionName::Sessions => b"--sessions=",
         }
     }
 
@@ -57,6 +73,7 @@ impl OptionName {
             OptionName::Seed => 0,
             OptionName::Routers => 2,
             OptionName::Links => 0,
+            OptionName::Port | OptionName::Desks | OptionName::Sessions => 1,
         }
     }
 
@@ -69,6 +86,9 @@ impl OptionName {
             OptionName::Seed => MOST_SEED,
             OptionName::Routers => MOST_ROUTERS,
             OptionName::Links => MOST_LINKS as u32,
+            OptionName::Port => MOST_PORT,
+            OptionName::Desks => MOST_DESKS,
+            OptionName::Sessions => MOST_SESSIONS,
         }
     }
 

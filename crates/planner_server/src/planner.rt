@@ -1,20 +1,25 @@
 //! The top call.
-ghost use Rattle.std.specs.Prelude.{◌≡◌, ◌≢◌, ◌<◌, ◌≤◌, ◌↔◌, ◌⊎◌, [], None, false};
+ghost use Rattle.std.specs.Prelude.{◌≡◌, ◌≢◌, ◌<◌, ◌≤◌, ◌↔◌, ◌⊎◌, [], All, None, false};
 ghost use Rattle.std.specs.Prelude.{length, map, IfOk, IfSome};
 ghost use Rattle.std.specs.String.{string_bytes};
 ghost use Rattle.job_queue.specs.declared.jobs.TheConstants.{MOST_WORKERS};
-ghost use Rattle.planner_server.specs.Commands.{IsInRanges, command_of};
-ghost use Rattle.planner_server.specs.Runs.{CheckRan, IsMadeSummary, IsUntouched, MakeEnds, PlanRan, Ran, ReadsNothing, ports};
-ghost use Rattle.planner_server.specs.Statuses.{is_read_fault, is_write_fault, status_of};
+ghost use Rattle.planner_server.specs.Commands.{IsInRanges, IsOpen, command_of};
+ghost use Rattle.planner_server.specs.Runs.{AsksNoDoor, CheckRan, IsMadeSummary, IsUntouched, MakeEnds, PlanRan, Ran};
+ghost use Rattle.planner_server.specs.Runs.{ReadsNothing, ServeEnds, ports, served_text, sink_view};
+ghost use Rattle.planner_server.specs.Statuses.{CountsPut, is_read_fault, is_write_fault, serve_status, status_of};
 ghost use Rattle.tree_versions.specs.Records.{AreCutTrees, AreFinished};
-ghost use Rattle.tree_versions.specs.Solo.{views_of};
+ghost use Rattle.tree_versions.specs.Solo.{IsSoundShelf, views_of};
 ghost use Rattle.tree_versions.specs.declared.shelf.TheConstants.{MOST_RECORDS};
 ghost use Rattle.wires.specs.Causes.{CountsOne, Rose};
+ghost use Rattle.wires.specs.Puts.{Puts};
+ghost use Rattle.desks.specs.Doors.{door_view};
 
-use crate::command::{Command, Making, read_command};
+use crate::command::{Command, Making, Serving, read_command};
 use crate::{Outcome, Status};
 use certifier::{CheckEnd, check};
 use cut_model::NoMemory;
+use desks::{Opening, serve_doors};
+use itoa::Buffer;
 use job_queue::MOST_WORKERS;
 use made_networks::{Summary, make_network, sum_up, write_summary};
 use path_minimum::Ladder;
@@ -23,7 +28,7 @@ use std::alloc::Global;
 use std::sync::{Arc, Wait};
 use std::thread::Threads;
 use tree_versions::SoloShelf;
-use wires::{Pair, Sink, Source};
+use wires::{Door, Failed, Pair, Sink, Source, put_pieces};
 use worker_gate::{Gate, build_tree};
 
 /// All that `plan` needs: a session, and the shelf on which its records are published.
@@ -229,6 +234,81 @@ fn make<R: Threads + Wait + Sync, K: Sink, G: Gate + Sync>(
     }
 }
 
+/// Puts the last line of `serve`: how many sessions ended, and how many records there are.
+#[tactic(auto, unfolding(crate::specs::Runs::served_text))]
+fn put_served<K: Sink>(sessions: u64, versions: u64, sink: &mut K) -> Result<(), Failed>
+    ensures { Puts K.Sink sink.old sink.new result (served_text sessions versions) }
+{
+    let mut session_digits = Buffer::new();
+    let mut version_digits = Buffer::new();
+    put_pieces(
+        &[
+            b"served ",
+            session_digits.format(sessions).as_bytes(),
+            b" versions ",
+            version_digits.format(versions).as_bytes(),
+            b"\n",
+        ],
+        sink,
+    )
+}
+
+/// The status that `serve` ends with.
+fn status_behind(failed: bool, written: Result<(), Failed>) -> Status
+    ensures { result ≡ serve_status failed written }
+{
+    if failed {
+        return Status::DoorFault;
+    }
+    match written {
+        Ok(()) => Status::Done,
+        Err(_) => Status::WriteFault,
+    }
+}
+
+/// The command `serve`: the clients of the first doors are served, and then the last line is put.
+fn serve<R: Threads + Wait + Sync, K: Sink, D: Door + Send + Drop, G: Gate + Sync>(
+    alloc: Global,
+    rt: &R,
+    serving: Serving,
+    sink: &mut K,
+    doors: &mut Vec<D>,
+    gate: &G,
+) -> Outcome
+where
+    D::Client: Send,
+    requires open { IsOpen serving }
+    requires nobody { All (λ door. D.out door ≡ None) doors.old.items }
+    ensures ends { ServeEnds serving result.status (views_of result.records.items) (record {
+      olds = map (door_view D.Door D.Client.Source D.Client.Sink) doors.old.items;
+      news = map (door_view D.Door D.Client.Source D.Client.Sink) doors.new.items;
+    }) (sink_view K.Sink sink.old) (sink_view K.Sink sink.new) }
+    ensures completes { (Rose (K.write_faults sink.old) (K.write_faults sink.new) → ⊥)
+        → result.status ≡ Status.WriteFault → ⊥ }
+    ensures good_words { result.status ≢ Status.BadWords }
+    ensures no_read { is_read_fault result.status ≡ false }
+    ensures untouched { result.status ≡ Status.NoMemory → (sink.new ≡ sink.old)
+        × (views_of result.records.items ≡ []) }
+    ensures kept { result.status ≡ Status.NoMemory → doors.new.items ≡ doors.old.items }
+    ensures sound { IsSoundShelf (views_of result.records.items) }
+    ensures write_cause { CountsPut result.status (K.write_faults sink.old) (K.write_faults sink.new) }
+    ensures beside_sink { K.beside_sink sink.new ≡ K.beside_sink sink.old }
+{
+    let opening = Opening {
+        desks: serving.desks,
+        sessions: serving.sessions,
+        workers: serving.workers,
+    };
+    let Ok(served) = serve_doors(alloc, rt, opening, doors, gate) else {
+        return without_records(alloc, Status::NoMemory);
+    };
+    let written = put_served(served.clients, served.records.len() as u64, sink);
+    Outcome {
+        status: status_behind(served.failed, written),
+        records: served.records,
+    }
+}
+
 /// Runs the command that the words name, over the source and the sink.
 ///
 /// `plan`, with the option `--workers`, is a session that reads request lines to the end of the input or to BYE,
@@ -249,34 +329,52 @@ fn make<R: Threads + Wait + Sync, K: Sink, G: Gate + Sync>(
 /// (`IsSummaryOf` in `made_networks/specs/Summaries.antt`), of which there is
 /// [one](made_networks::laws::summary_is_one), whatever the workers did.
 ///
-/// Of `plan`, `NoMemory` comes only before the first read, and of `check` and `make` only before the put. A run takes
+/// Of `plan` and `serve`, `NoMemory` comes only before the first read or the first call of a door, and of `check` and
+/// `make` only before the put. A run takes
 /// at most [`MOST_BYTES`](line_reader::MOST_BYTES) from its source. `plan` keeps at most
 /// [`MOST_RECORDS`](tree_versions::MOST_RECORDS) records of up to about 520 kB each, and some 630 kB beside, most of
 /// it for a flow; while a tree is built, it takes up to 450 kB for each worker. `check` keeps less than 2 MB. `make`
 /// keeps one network with its tree, and takes up to 450 kB for each worker.
-pub fn run<R: Threads + Wait + Sync, S: Source, K: Sink, G: Gate + Sync>(
+///
+/// `serve`, with the options `--port`, `--desks` and `--sessions`, and `--workers`, serves the clients of the first doors,
+/// as many as there are desks at most, so many sessions at each, and puts one line at last: how many sessions ended, and
+/// how many records there are. All clients load networks into one list. The contract says of each door what its clients
+/// were answered (`DoorsServed` in `desks/specs/Boards.antt`). The doors behind the first are left alone.
+pub fn run<R: Threads + Wait + Sync, S: Source, K: Sink, D: Door + Send + Drop, G: Gate + Sync>(
     alloc: Global,
     rt: &R,
     words: &[String],
     source: &mut S,
     sink: &mut K,
+    doors: &mut Vec<D>,
     gate: &G,
 ) -> Outcome
+where
+    D::Client: Send,
+    requires nobody { All (λ door. D.out door ≡ None) doors.old.items }
+
     // The command was run: what was written, over the records that are handed back and no others.
     ensures ran { IfSome (command_of (map string_bytes words.now)) (λ command. Ran command result.status (record {
       start = ports S.Source K.Sink source.old sink.old;
       now = ports S.Source K.Sink source.new sink.new;
       records = views_of result.records.items;
+    }) (record {
+      olds = map (door_view D.Door D.Client.Source D.Client.Sink) doors.old.items;
+      news = map (door_view D.Door D.Client.Source D.Client.Sink) doors.new.items;
     })) }
 
     ensures bad_words { (result.status ≡ Status.BadWords) ↔ (command_of (map string_bytes words.now) ≡ None) }
 
-    // Nothing was read or written where there is no command, and where `plan` or `make` had no memory.
+    // Nothing was read or written where there is no command, and where `plan`, `make` or `serve` had no memory.
     ensures untouched { IsUntouched (command_of (map string_bytes words.now)) result.status
         → (source.new ≡ source.old) × (sink.new ≡ sink.old) }
 
-    // Nothing was read at all where there is no command, and by `make`.
+    // Nothing was read at all where there is no command, and by `make` and `serve`.
     ensures unread { ReadsNothing (command_of (map string_bytes words.now)) → source.new ≡ source.old }
+
+    // No door was asked where the command isn't `serve`, and where there was no memory.
+    ensures unasked { AsksNoDoor (command_of (map string_bytes words.now)) → doors.new.items ≡ doors.old.items }
+    ensures no_desk { result.status ≡ Status.NoMemory → doors.new.items ≡ doors.old.items }
 
     ensures no_record { (result.status ≡ Status.BadWords) ⊎ (result.status ≡ Status.NoMemory)
         → views_of result.records.items ≡ [] }
@@ -288,11 +386,10 @@ pub fn run<R: Threads + Wait + Sync, S: Source, K: Sink, G: Gate + Sync>(
     ensures trees { AreCutTrees (views_of result.records.items) }
 
     // Each count of faults is one more where the run ended by such a fault, and else as before: a run ends at the
-    // first fault.
+    // first fault. Where a door failed, the put of the last line of `serve` may have failed as well.
     ensures read_cause { CountsOne (S.read_faults source.old) (S.read_faults source.new)
         (is_read_fault result.status) }
-    ensures write_cause { CountsOne (K.write_faults sink.old) (K.write_faults sink.new)
-        (is_write_fault result.status) }
+    ensures write_cause { CountsPut result.status (K.write_faults sink.old) (K.write_faults sink.new) }
 
     // Nothing else of the two objects changed.
     ensures beside_source { S.beside_source source.new ≡ S.beside_source source.old }
@@ -303,5 +400,6 @@ pub fn run<R: Threads + Wait + Sync, S: Source, K: Sink, G: Gate + Sync>(
         Some(Command::Plan { workers }) => plan(alloc, rt, workers, source, sink, gate),
         Some(Command::Check) => check_text(alloc, source, sink),
         Some(Command::Make(making)) => make(alloc, rt, making, sink, gate),
+        Some(Command::Serve(serving)) => serve(alloc, rt, serving, sink, doors, gate),
     }
 }

@@ -21,3 +21,9 @@ make-requires-after_bounds g c κs within =
     let make = c.in-Some-Make in
     let words = map string_bytes c.args.words.now in
     subst AsksWithin make.field-0-is (command_within words make.field-0 (sym c.read_command.ensures ∙ make.is))
+
+pub serve-requires-clause-open : goal.serve-requires-clause-open
+serve-requires-clause-open g c κs within =
+    let serve = c.in-Some-Serve in
+    let words = map string_bytes c.args.words.now in
+    subst AsksWithin serve.field-0-is (command_within words serve.field-0 (sym c.read_command.ensures ∙ serve.is))
