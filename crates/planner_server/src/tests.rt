@@ -1,5 +1,5 @@
 //! Whole runs and sessions over sources and sinks in memory: pieces, reads and puts that fail, and workers that meet.
-ghost use Rattle.std.specs.Prelude.{◌<◌};
+ghost use Rattle.std.specs.Prelude.{◌≡◌, ◌<◌, [], All, IfOk, None};
 
 use crate::{Status, run};
 use commit_rule::Ticket;
@@ -12,7 +12,7 @@ use std::sync::atomic::{AtomicU64, Ordering};
 use std::test::Fail;
 use std::thread::{self, Threads};
 use tree_versions::SoloShelf;
-use wires::{MemoryPeer, MemorySink, MemorySource};
+use wires::{MemoryDoor, MemoryPeer, MemorySink, MemorySource};
 use worker_gate::{Gate, OpenGate, compute};
 
 /// How often a gate looks, before it notes that it waited in vain.
@@ -61,6 +61,13 @@ fn peer(
     })
 }
 
+/// No doors.
+fn no_doors(alloc: Global) -> Vec<MemoryDoor>
+    ensures { result.items ≡ [] }
+{
+    Vec::new(alloc)
+}
+
 /// Whether a run of `plan` ends so, with the front of the replies that has this length.
 fn ends<R: Threads + Wait + Sync + AllocGlobal>(
     rt: &R,
@@ -76,6 +83,7 @@ fn ends<R: Threads + Wait + Sync + AllocGlobal>(
         &words,
         &mut peer.source,
         &mut peer.sink,
+        &mut no_doors(alloc),
         &OpenGate,
     );
     let text = peer.sink.written();
@@ -140,7 +148,15 @@ fn checks<R: Threads + Wait + Sync + AllocGlobal>(
     let words = vec![in alloc; String::from_str(alloc, "check")?]?;
     let mut source = MemorySource::make(text.to_vec(alloc)?, 7, vec![in alloc; 0]?);
     let mut sink = MemorySink::make(alloc, 100, vec![in alloc; 0]?)?;
-    let outcome = run(alloc, rt, &words, &mut source, &mut sink, &OpenGate);
+    let outcome = run(
+        alloc,
+        rt,
+        &words,
+        &mut source,
+        &mut sink,
+        &mut no_doors(alloc),
+        &OpenGate,
+    );
     Ok(outcome.status == status && outcome.records.is_empty() && sink.written() == line)
 }
 
@@ -179,6 +195,7 @@ fn makes<R: Threads + Wait + Sync + AllocGlobal>(
         &words,
         &mut peer.source,
         &mut peer.sink,
+        &mut no_doors(alloc),
         &OpenGate,
     );
     Ok(outcome.status == status && outcome.records.is_empty() && peer.sink.written() == text)
@@ -249,7 +266,15 @@ fn two_meet<R: Threads + Wait + Sync + AllocGlobal>(
     };
     let mut source = MemorySource::make(TWO_CUTS.to_vec(alloc)?, 99, vec![in alloc; 0]?);
     let mut sink = MemorySink::make(alloc, 100, vec![in alloc; 0]?)?;
-    let outcome = run(alloc, rt, words, &mut source, &mut sink, &gate);
+    let outcome = run(
+        alloc,
+        rt,
+        words,
+        &mut source,
+        &mut sink,
+        &mut no_doors(alloc),
+        &gate,
+    );
     let met = gate.twos.load(Ordering::SeqCst) > 0 && gate.failures.load(Ordering::SeqCst) == 0;
     Ok(met && outcome.status == Status::Done && sink.written() == text)
 }
@@ -263,5 +288,107 @@ fn as_many_workers_build_a_tree_as_the_words_ask_for(rt: HostRuntime) -> Result<
     ]?;
     assert!(rt; two_meet(&rt, &words, TWO_CUTS_REPLIES)?);
     assert!(rt; two_meet(&rt, &made_words(alloc)?, MADE_SUMMARY)?);
+    Ok(())
+}
+
+/// A door with so many clients who send `FIRST`, of which this call for one fails, if they are so many.
+fn door(alloc: Global, clients: u32, failing: u32) -> Result<MemoryDoor, Fail>
+    ensures { IfOk result (λ door. door.out ≡ None) }
+{
+    let mut all = Vec::new(alloc);
+    for _number in 0..clients {
+        all.push(peer(alloc, 9, 0, 100, 0)?)?;
+    }
+    Ok(MemoryDoor::make(alloc, all, vec![in alloc; failing]?)?)
+}
+
+/// Two doors.
+fn two_doors(alloc: Global, one: MemoryDoor, other: MemoryDoor) -> Result<Vec<MemoryDoor>, Fail>
+    requires one { one.out ≡ None }
+    requires other { other.out ≡ None }
+    ensures { IfOk result (λ doors. All (λ door. door.out ≡ None) doors.items) }
+{
+    Ok(vec![in alloc; one, other]?)
+}
+
+/// Whether these doors are served so, with a last line, by up to five sessions each. A put may fail, and then it is the
+/// first.
+fn serves<R: Threads + Wait + Sync + AllocGlobal>(
+    rt: &R,
+    doors: &mut Vec<MemoryDoor>,
+    failing_put: u32,
+    status: Status,
+    line: &[u8],
+) -> Result<bool, Fail>
+    requires { All (λ door. door.out ≡ None) doors.old.items }
+{
+    let alloc = rt.alloc();
+    let words = vec![in alloc;
+        String::from_str(alloc, "serve")?,
+        String::from_str(alloc, "--port=4000")?,
+        String::from_str(alloc, "--desks=8")?,
+        String::from_str(alloc, "--sessions=5")?,
+    ]?;
+    let mut peer = peer(alloc, 9, 0, 100, failing_put)?;
+    let outcome = run(
+        alloc,
+        rt,
+        &words,
+        &mut peer.source,
+        &mut peer.sink,
+        doors,
+        &OpenGate,
+    );
+    Ok(outcome.status == status && peer.sink.written() == line)
+}
+
+/// Whether so many clients came back through a door, each with replies to all that it sent.
+fn came_back(door: &MemoryDoor, clients: usize) -> bool {
+    let served = door.served();
+    let mut whole = served.len() == clients;
+    for client in served {
+        let text = client.sink.written();
+        whole &= text == FIRST_REPLIES || text == SECOND_REPLIES;
+    }
+    whole
+}
+
+#[test]
+fn the_clients_of_two_doors_load_into_one_list(rt: HostRuntime) -> Result<(), Fail> {
+    let alloc = rt.alloc();
+    let mut doors = two_doors(alloc, door(alloc, 1, 0)?, door(alloc, 1, 0)?)?;
+    assert!(rt; serves(&rt, &mut doors, 0, Status::Done, b"served 2 versions 2\n")?);
+    for door in &doors {
+        assert!(rt; came_back(door, 1));
+    }
+    Ok(())
+}
+
+#[test]
+fn a_door_that_fails_is_not_asked_again(rt: HostRuntime) -> Result<(), Fail> {
+    let alloc = rt.alloc();
+    let mut doors = two_doors(alloc, door(alloc, 2, 2)?, door(alloc, 1, 0)?)?;
+    assert!(rt;
+        serves(
+            &rt,
+            &mut doors,
+            0,
+            Status::DoorFault,
+            b"served 2 versions 2\n"
+        )?
+    );
+    for door in &doors {
+        assert!(rt; came_back(door, 1));
+    }
+    Ok(())
+}
+
+#[test]
+fn a_failed_door_goes_before_a_failed_sink(rt: HostRuntime) -> Result<(), Fail> {
+    let alloc = rt.alloc();
+    let mut doors = two_doors(alloc, door(alloc, 1, 1)?, door(alloc, 1, 1)?)?;
+    assert!(rt; serves(&rt, &mut doors, 1, Status::DoorFault, b"")?);
+    let mut sound = two_doors(alloc, door(alloc, 0, 0)?, door(alloc, 0, 0)?)?;
+    assert!(rt; serves(&rt, &mut sound, 1, Status::WriteFault, b"")?);
     Ok(())
 }
