@@ -14,11 +14,11 @@ use std::marker::Model;
 use std::net::{Shutdown, TcpStream};
 use std::time::Duration;
 
-/// How many seconds a connection that is closed waits for the client to send something, or to end.
-const PATIENCE: u64 = 1;
+/// How many milliseconds a connection that is closed waits for the client to send something, or to end.
+const PATIENCE: u64 = 125;
 
-/// How often a connection that is closed reads what the client still sends.
-const LAST_READS: u32 = 64;
+/// How often a connection that is closed reads what the client still sends, so that it waits two seconds at most.
+const LAST_READS: u32 = 16;
 
 /// Reads what a client sends, and writes to it at once. It tells nothing of the bytes. A read waits as long as
 /// the client sends nothing, and a put as long as the client takes nothing: neither gives up.
@@ -77,11 +77,11 @@ impl TcpPeer {
 
 /// Reads on, until the client ends or sends nothing for a while, at most so many times.
 fn read_out(stream: &mut TcpStream) {
-    let patience = Duration::from_secs(PATIENCE);
+    let patience = Duration::from_millis(PATIENCE);
     if stream.set_read_timeout(Some(patience)).is_err() {
         return;
     }
-    let mut buffer = [0u8; 4096];
+    let mut buffer = [0u8; 16384];
     for _ in 0..LAST_READS {
         match read_once(stream, &mut buffer) {
             Ok(count) if count > 0 => {}
