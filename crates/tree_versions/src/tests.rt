@@ -200,7 +200,8 @@ fn what_two_desks_publish_stands_at_its_versions(rt: HostRuntime) -> Result<(), 
     Ok(())
 }
 
-/// A record is published for the first of three seats. The second sees it untold, the third learns it.
+/// A record is published for the first of three seats. The second sees it untold, and the third as a shelf, which then
+/// learns it.
 fn look_from_three_seats<B: Board, R: Wait + Abort + AllocGlobal>(
     rt: &R,
     opened: OpenedLog,
@@ -223,8 +224,15 @@ fn look_from_three_seats<B: Board, R: Wait + Abort + AllocGlobal>(
     assert_eq!(rt; seats[0].versions(), 0);
     assert_eq!(rt; seats[1].look(), 1);
     assert_eq!(rt; seats[1].record_at(1).sheet().net().routers(), 1);
-    seats[2].learn(note);
-    assert_eq!(rt; seats[2].look(), 1);
+    let Some(third) = seats.pop() else {
+        return Err(Fail::from("no seat"));
+    };
+    let mut shelf = DeskShelf::make(alloc, rt, third, &publisher);
+    assert_eq!(rt; shelf.look(), 1);
+    let mut third = shelf.into_seat();
+    third.learn(note);
+    assert_eq!(rt; third.look(), 1);
+    seats.push_reserved(third);
     assert_eq!(rt; close_board(rt, publisher, seats).len(), 1);
     Ok(())
 }

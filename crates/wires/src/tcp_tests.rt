@@ -106,3 +106,17 @@ fn broken_door_gives_nobody(rt: HostRuntime) {
     assert!(rt; door.next().is_err());
     assert!(rt; door.next().is_err());
 }
+
+// A listener that doesn't wait fails where no client is there, and a later call may give one.
+#[test]
+fn door_fails_where_its_listener_does(rt: HostRuntime) -> Result<(), Fail> {
+    let listener = TcpListener::bind(&rt, SocketAddr::from((Ipv4Addr::LOCALHOST, 0u16)))?;
+    listener.set_nonblocking(true)?;
+    let address = listener.local_addr()?;
+    let mut door = TcpDoor::make(listener);
+    assert!(rt; door.next().is_err());
+    let _stream = TcpStream::connect(&rt, address)?;
+    let client = let_in(&mut door)?;
+    door.back(client);
+    Ok(())
+}
