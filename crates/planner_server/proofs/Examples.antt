@@ -1,7 +1,7 @@
 -- What some words name.
 use Rattle.std.proofs.Common.{◌≡◌, [], ◌∷◌, Some, None, refl, codes}
 use Rattle.planner_server.specs.Commands.{command_of}
-use Rattle.planner_server.specs.declared.command.Command.TheVariants.{Plan, Check, Make}
+use Rattle.planner_server.specs.declared.command.Command.TheVariants.{Plan, Check, Make, Serve}
 use Rattle.planner_server.specs.declared.command.Making.{Making}
 
 -- the option may be missing
@@ -92,3 +92,22 @@ plan_with_seed = refl
 -- no words
 no_words : command_of [] ≡ None
 no_words = refl
+
+-- desks at a port
+serve : command_of (codes "serve" ∷ codes "--sessions=5" ∷ codes "--port=4000" ∷ codes "--desks=2" ∷ [])
+    ≡ Some (Serve (record { port = 4000; desks = 2; sessions = 5; workers = 1 }))
+serve = refl
+
+-- all that may stand behind it, at the greatest
+serve_most : command_of (codes "serve" ∷ codes "--port=65535" ∷ codes "--desks=8" ∷ codes "--sessions=1000000"
+    ∷ codes "--workers=16" ∷ [])
+    ≡ Some (Serve (record { port = 65535; desks = 8; sessions = 1000000; workers = 16 }))
+serve_most = refl
+
+-- what must stand there
+serve_alone : command_of (codes "serve" ∷ codes "--port=4000" ∷ codes "--desks=2" ∷ []) ≡ None
+serve_alone = refl
+
+-- a desk too many
+nine_desks : command_of (codes "serve" ∷ codes "--port=4000" ∷ codes "--desks=9" ∷ codes "--sessions=5" ∷ []) ≡ None
+nine_desks = refl
