@@ -4,9 +4,5 @@
 try_certificates() {
     python3 tests/certificates.py "$program" "$late" >"$room/verdicts" 2>"$room/complaints" ||
         note_failure certificates.py "$(tail -n 1 "$room/complaints")"
-    passed=$((passed + $(grep -c '^right' "$room/verdicts")))
-    grep -v '^right' "$room/verdicts" >"$room/wrong"
-    while IFS='	' read -r _ name why; do
-        note_failure "$name" "$why"
-    done <"$room/wrong"
+    take_verdicts
 }

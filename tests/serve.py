@@ -169,7 +169,7 @@ def try_eight(program):
 
     with serving(program, clients, 1) as server:
         with ThreadPoolExecutor(clients) as pool:
-            told = list(pool.map(one, range(clients), timeout=SECONDS))
+            told = list(pool.map(one, range(clients)))
         server.ended(clients, clients * networks)
     capacity_of = {version: capacity for each in told for capacity, version in zip(each[0], each[1])}
     same("the list of versions", sorted(capacity_of), list(range(1, clients * networks + 1)))
