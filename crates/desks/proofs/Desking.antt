@@ -1,6 +1,7 @@
 -- Doors that several desks serve, put together.
-use Rattle.std.proofs.Common.{◌≡◌, ℕ, zero, suc, ◌+◌, ◌<◌, ◌≤◌, List, [], ◌∷◌, ◌++◌, Bool, true, false, ◌||◌, drop, length, map, take}
-use Rattle.std.proofs.Common.{All, Ok, Err, Result, inl, inr, min, append_assoc, get_or, length-append, refl, sym, ap, ◌∙◌, arith, subst, sum_by}
+use Rattle.std.proofs.Common.{◌≡◌, ℕ, zero, suc, ◌+◌, ◌<◌, ◌≤◌, min, List, [], ◌∷◌, ◌++◌, Bool, true, false, ◌||◌}
+use Rattle.std.proofs.Common.{All, Ok, Err, Result, inl, inr, drop, get_or, length, map, sum_by, take}
+use Rattle.std.proofs.Common.{refl, sym, ap, ◌∙◌, arith, subst, append_assoc, length-append}
 use Rattle.std.proofs.Math.Seq.{drop-append_seam, take-append_seam}
 use Rattle.std.proofs.lemmas.Bool.{cases_lt}
 use Rattle.std.proofs.lemmas.List.{append-nil, drop_all, length-drop, length-map, map-append, take_all}
@@ -42,8 +43,8 @@ record IsSame (one other : Tally) : Type 0 where
   failed : other.failed ≡ one.failed
 
 -- doors were served with any tally of the same numbers
-served-alike : (records : List RecordView) (quota : ℕ) (olds news : List DoorView) (one other : Tally) → IsSame one other
-    → AreServed records quota olds news one → AreServed records quota olds news other
+served-alike : (records : List RecordView) (quota : ℕ) (olds news : List DoorView) (one other : Tally)
+    → IsSame one other → AreServed records quota olds news one → AreServed records quota olds news other
 served-alike records quota [] [] one other same are = record {
   clients = same.clients ∙ are.clients;
   loads = same.loads ∙ are.loads;
@@ -74,8 +75,8 @@ or-none true = refl
 or-none false = refl
 
 -- some doors, and then some more
-pub served-append : (records : List RecordView) (quota : ℕ) (olds news more after : List DoorView) (one other all : Tally)
-    → IsBoth all one other → AreServed records quota olds news one → AreServed records quota more after other
+pub served-append : (records : List RecordView) (quota : ℕ) (olds news more after : List DoorView)
+    (one other all : Tally) → IsBoth all one other → AreServed records quota olds news one → AreServed records quota more after other
     → AreServed records quota (olds ++ more) (news ++ after) all
 served-append records quota [] [] more after one other all sum are rest =
     served-alike records quota more after other all
@@ -122,7 +123,8 @@ served-one records few quota start now old new clients failed one grows = record
 -- ---- desks side by side
 
 -- whether one of several, or one more, is
-pub any-last : {X : Type 0} (is : X → Bool) (xs : List X) (x : X) → (list_any is xs || is x) ≡ list_any is (xs ++ x ∷ [])
+pub any-last : {X : Type 0} (is : X → Bool) (xs : List X) (x : X)
+    → (list_any is xs || is x) ≡ list_any is (xs ++ x ∷ [])
 any-last is [] x = or-none (is x)
 any-last is (y ∷ xs) x = or-later (is y) (list_any is xs) (is x) ∙ ap (λ b. is y || b) (any-last is xs x)
 
@@ -245,8 +247,8 @@ pub front-more : {D : Type 0} (view : D → DoorView) {quota count : ℕ} {start
     → ServesDoor quota mid now (view door) (view left) more fails
     → ServesFront view quota (count + 1) start now waiting rest doors (given ++ left ∷ []) (clients + more)
     (failed || fails)
-front-more view {quota = quota} {start = start} mid now {doors = doors} door left rest {clients = clients} {failed = failed}
-    more fails before one = record {
+front-more view {quota = quota} {start = start} mid now {doors = doors} door left rest {clients = clients}
+    {failed = failed} more fails before one = record {
       olds = before.olds ++ door ∷ [];
       news = before.news ++ left ∷ [];
       count_is = omega (arith, before.count_is, length-append before.olds (door ∷ []));
@@ -511,7 +513,8 @@ doors-all quota desks count records olds news clients failed least done = elim (
         let none : drop count news ≡ [] = done.others ∙ drop_all count olds (omega (arith, size)) in
         let short : length news ≤ count = omega (arith, ap length none, length-drop count news) in
         record {
-          served = subst (λ doors. AreServed records quota doors (take desks news) (tally clients (length records) failed))
+          served = subst (λ doors. AreServed records quota doors (take desks news)
+              (tally clients (length records) failed))
               (take_all count olds (omega (arith, size)) ∙ sym (take_all desks olds (omega (arith, fewer))))
               (subst (λ doors. AreServed records quota (take count olds) doors (tally clients (length records) failed))
               (take_all count news short ∙ sym (take_all desks news (omega (arith, short, size, fewer)))) done.served);

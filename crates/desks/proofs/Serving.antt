@@ -77,7 +77,11 @@ pub served-more : (count : ℕ) (start mid now : Shelved) (old between new : Doo
     → HasServed (count + 1) start now old new
 served-more count start mid now old between new begin before client = record {
   visits = before.visits ++ record { begin = begin; back = client.back } ∷ [];
-  count_is = omega (arith, before.count_is, length-append before.visits (record { begin = begin; back = client.back } ∷ []));
+  count_is = omega (
+    arith,
+    before.count_is,
+    length-append before.visits (record { begin = begin; back = client.back } ∷ []),
+  );
   last = client.last;
   loads = before.loads + client.loads;
   answered = visits-more now.seen 0 before.visits before.last client.last before.loads client.loads

@@ -41,8 +41,8 @@ abbrev pub all_published : List Shelved → ℕ
 all_published [] = 0
 all_published (one ∷ others) = one.published + all_published others
 
--- Doors were served over these shelves, through which as many records were published as networks were loaded. It is told
--- for the whole list of records of which the holders have seen fronts.
+-- Doors were served over these shelves, through which as many records were published as networks were loaded. It is
+-- told for the whole list of records of which the holders have seen fronts.
 pub record ServeDoors (quota : ℕ) (starts nows : List Shelved) (olds news : List DoorView) (clients : ℕ)
     (failed : Bool) : Type 0 where
   pub loads : ℕ

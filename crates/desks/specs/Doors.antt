@@ -12,8 +12,8 @@ use Rattle.wires.specs.declared.doors.Door.{Ghosts as DoorGhosts}
 use Rattle.wires.specs.declared.sinks.Sink.{Ghosts as SinkGhosts}
 use Rattle.wires.specs.declared.sources.Source.{Ghosts as SourceGhosts}
 
--- What a door shows: who is out, the visits so far, where they are told, whether the last client has come, and how often
--- it has failed.
+-- What a door shows: who is out, the visits so far, where they are told, whether the last client has come, and how
+-- often it has failed.
 pub record DoorView : Type 0 where
   pub out : Option (Option Beginning)
   pub visits : Option (List Visit)

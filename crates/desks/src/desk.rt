@@ -44,7 +44,7 @@ fn work<R: Threads + Wait + Sync, H: Shelf, D: Door, G: Gate + Sync>(
     );
 }
 
-/// All desks serve their doors at the same time, each in a thread of its own where one can be made.
+/// Serves at each desk of a slice, in threads where they can be made.
 fn work_all<R: Threads + Wait + Sync, H: Shelf + Send, D: Door + Send, G: Gate + Sync>(
     means: &Means<'_, R, G>,
     desks: &mut [Desk<H, D>],
@@ -64,7 +64,7 @@ where
     thread::for_each_mut(means.rt, desks, MOST_DESKS as usize, &serve);
 }
 
-/// So do the desks of a list.
+/// All desks of a list serve their doors at the same time, each in a thread of its own where one can be made.
 pub(crate) fn work_at_doors<
     R: Threads + Wait + Sync,
     H: Shelf + Send,

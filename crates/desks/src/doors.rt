@@ -42,7 +42,9 @@ fn serve_client<R: Threads + Wait + Sync, H: Shelf, D: Door, G: Gate + Sync>(
     requires out { IsOut (D.out door.old) (begin_of (client_view D.Client.Source D.Client.Sink client)) }
     ensures { (seen : ℕ) → seen ≤ length (H.seen shelf.old)
         → ServesClient seen (begin_of (client_view D.Client.Source D.Client.Sink client))
-        (shelved H.Shelf shelf.old) (shelved H.Shelf shelf.new) (door_view D.Door D.Client.Source D.Client.Sink door.old) (door_view D.Door D.Client.Source D.Client.Sink door.new) }
+        (shelved H.Shelf shelf.old) (shelved H.Shelf shelf.new)
+        (door_view D.Door D.Client.Source D.Client.Sink door.old)
+        (door_view D.Door D.Client.Source D.Client.Sink door.new) }
 {
     let mut client = client;
     serve_session(
@@ -65,7 +67,8 @@ pub(crate) fn serve_door<R: Threads + Wait + Sync, H: Shelf, D: Door, G: Gate + 
 ) -> DoorEnd
     requires nobody { D.out door.old ≡ None }
     ensures { ServesDoor means.now.quota (shelved H.Shelf shelf.old) (shelved H.Shelf shelf.new)
-        (door_view D.Door D.Client.Source D.Client.Sink door.old) (door_view D.Door D.Client.Source D.Client.Sink door.new) result.clients result.failed }
+        (door_view D.Door D.Client.Source D.Client.Sink door.old)
+        (door_view D.Door D.Client.Source D.Client.Sink door.new) result.clients result.failed }
 {
     for clients in 0..means.quota {
         match door.next() {

@@ -1,5 +1,6 @@
 //! All doors, by as many desks as there are.
-ghost use Rattle.std.specs.Prelude.{◌≡◌, ◌≤◌, ◌<◌, ◌+◌, ◌*◌, ◌^◌, ◌++◌, ◌||◌, [], All, None, IfOk, OnErr, false, length, map, sum_by, vec_capacity};
+ghost use Rattle.std.specs.Prelude.{◌≡◌, ◌≤◌, ◌<◌, ◌+◌, ◌*◌, ◌^◌, ◌++◌, ◌||◌, [], All, None, IfOk, OnErr};
+ghost use Rattle.std.specs.Prelude.{false, length, map, sum_by, vec_capacity};
 ghost use Rattle.std.specs.List.{list_any};
 ghost use Rattle.std.specs.Vec.Iter.{into_iter_items, into_iter_len};
 ghost use Rattle.desks.specs.Desks.{ServesFirst, ServesFront, desk_view};
@@ -166,8 +167,8 @@ fn take_room<H: Drop, D: Drop>(alloc: Global, kits: usize) -> Result<Room<H, D>,
     })
 }
 
-/// Serves the first of the doors that wait: each kit at one of them, all at the same time, and then those for which there
-/// was no kit by the last one. All the doors are put behind others, in their order.
+/// Serves the first of the doors that wait: each kit at one of them, all at the same time, and then those for which
+/// there was no kit by the last one. All the doors are put behind others, in their order.
 fn serve_taken<
     R: Threads + Wait + Sync,
     H: Shelf + Send + Drop,

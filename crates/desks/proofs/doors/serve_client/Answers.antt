@@ -31,8 +31,8 @@ returns g c seen low =
         completes = c.serve_session.ensures.completes;
         always_too_long = c.serve_session.ensures.always_too_long;
       };
-      told = told-back (visit_of source sink) (g.D.Door.out c.args.door.now) back begin (g.D.Door.served c.args.door.now)
-          (g.D.Door.served c.back.new.self) c.requires.out c.back.ensures.served;
+      told = told-back (visit_of source sink) (g.D.Door.out c.args.door.now) back begin
+          (g.D.Door.served c.args.door.now) (g.D.Door.served c.back.new.self) c.requires.out c.back.ensures.served;
       reached = visit.reached;
       grows = visit.grows;
       few = g.H.Shelf.few c.serve_session.new.shelf;

@@ -1,4 +1,5 @@
-use Rattle.std.proofs.Common.{All, Bool, ℕ, refl, [], length, length-append, ◌≡◌, ◌∙◌, ◌∷◌, None, suc, subst, arith, sym, ap}
+use Rattle.std.proofs.Common.{◌≡◌, ℕ, suc, Bool, [], ◌∷◌, All, None, length}
+use Rattle.std.proofs.Common.{refl, sym, ap, ◌∙◌, arith, subst, length-append}
 use Rattle.std.specs.Vec.Iter.{into_iter_items}
 use Rattle.desks.specs.Desks.{ServesFront}
 use Rattle.desks.specs.Doors.{door_view}
@@ -9,12 +10,14 @@ use Rattle.desks.proofs.seating.serve_left_over.Goals as goal
 pub loop-number-init : goal.loop-number-init
 loop-number-init g c = (
   subst (λ (n : ℕ). ServesFront (door_view g.D.Door g.D.Client.Source g.D.Client.Sink) c.args.means.now.quota 0
-      (shelved g.H.Shelf c.args.kit.now.shelf) (shelved g.H.Shelf c.args.kit.now.shelf) (into_iter_items c.args.waiting.now)
-      (into_iter_items c.args.waiting.now) c.args.doors.now.items c.args.doors.now.items n c.none-all.result.failed)
+      (shelved g.H.Shelf c.args.kit.now.shelf) (shelved g.H.Shelf c.args.kit.now.shelf)
+      (into_iter_items c.args.waiting.now) (into_iter_items c.args.waiting.now) c.args.doors.now.items
+      c.args.doors.now.items n c.none-all.result.failed)
       (sym c.none-all.ensures.clients)
       (subst (λ (b : Bool). ServesFront (door_view g.D.Door g.D.Client.Source g.D.Client.Sink) c.args.means.now.quota 0
-      (shelved g.H.Shelf c.args.kit.now.shelf) (shelved g.H.Shelf c.args.kit.now.shelf) (into_iter_items c.args.waiting.now)
-      (into_iter_items c.args.waiting.now) c.args.doors.now.items c.args.doors.now.items 0 b)
+      (shelved g.H.Shelf c.args.kit.now.shelf) (shelved g.H.Shelf c.args.kit.now.shelf)
+      (into_iter_items c.args.waiting.now) (into_iter_items c.args.waiting.now) c.args.doors.now.items
+      c.args.doors.now.items 0 b)
       (sym c.none-all.ensures.failed)
       (front-none (door_view g.D.Door g.D.Client.Source g.D.Client.Sink) c.args.means.now.quota
       (shelved g.H.Shelf c.args.kit.now.shelf) (into_iter_items c.args.waiting.now) c.args.doors.now.items)),

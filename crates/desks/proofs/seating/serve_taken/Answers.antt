@@ -64,12 +64,13 @@ returns-clause-first g c =
       size = c.work_at_doors.ensures.count;
       each = c.work_at_doors.ensures.each;
       popped = sym c.leave-first.ensures.kits ∙ c.in-Some.ensures.items;
-      doors_are = c.leave-first.ensures.doors ∙ ap (λ doors. doors ++ map (λ desk. desk.door) c.work_at_doors.new.desks.items) c.requires.none;
+      doors_are = c.leave-first.ensures.doors
+          ∙ ap (λ doors. doors ++ map (λ desk. desk.door) c.work_at_doors.new.desks.items) c.requires.none;
       over = rest.ensures.serves;
       fit = omega (arith, c.requires.seats, c.len-seats.ensures);
     } in
-    let served = first-served sight c.args.means.now.quota c.args.count c.args.kits.items c.pop.new.self.items rest.new.kit
-    c.args.taken.items rest.new.doors.items waiting c.work_at_doors.new.desks.items rest.result.clients
+    let served = first-served sight c.args.means.now.quota c.args.count c.args.kits.items c.pop.new.self.items
+    rest.new.kit c.args.taken.items rest.new.doors.items waiting c.work_at_doors.new.desks.items rest.result.clients
     rest.result.failed all in
     rw (
       c.push_reserved.ensures.items,
