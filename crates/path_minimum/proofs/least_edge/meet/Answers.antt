@@ -69,7 +69,10 @@ returns-clause-edge g c a b before =
     let last : AreLast tree c.args.ends look =
     record { ends_are = c.requires.ends; one_is = one_is; other_is = other_is } in
     let lesser : AreLesser tree c.args.ends.least look =
-    record { middle = rw c.edge_above.ensures at c.lesser-nearer.ensures; next = rw c.edge_above-2.ensures at c.lesser.ensures } in
+    record {
+      middle = rw c.edge_above.ensures at c.lesser-nearer.ensures;
+      next = rw c.edge_above-2.ensures at c.lesser.ensures;
+    } in
     passed-all tree c.requires.tree a b
     (record { x = c.look-other.result.router; y = c.look-one.result.router; least = c.lesser.result })
     (passed-last tree c.requires.tree c.args.ends look last lesser a b before)
@@ -96,5 +99,8 @@ returns-clause-is g c a b before =
     let last : AreLast tree c.args.ends look =
     record { ends_are = c.requires.ends; one_is = one_is; other_is = other_is } in
     let lesser : AreLesser tree c.args.ends.least look =
-    record { middle = rw c.edge_above.ensures at c.lesser-nearer.ensures; next = rw c.edge_above-2.ensures at c.lesser.ensures } in
+    record {
+      middle = rw c.edge_above.ensures at c.lesser-nearer.ensures;
+      next = rw c.edge_above-2.ensures at c.lesser.ensures;
+    } in
     (passed-last tree c.requires.tree c.args.ends look last lesser a b before).edge
