@@ -3,10 +3,12 @@ use Rattle.std.specs.Prelude.{◌≡◌, ℕ, ◌+◌, ◌≤◌, ◌⊎◌, ◌
 use Rattle.std.specs.Option.{option_map}
 use Rattle.std.specs.declared.option.Option.{Option}
 use Rattle.desks.specs.Visits.{AreAnswered, ClientView, IsAnswered, Visit}
+use Rattle.desks.specs.declared.doors.DoorEnd.{DoorEnd}
+use Rattle.desks.specs.declared.seating.DoorsEnd.{DoorsEnd}
 use Rattle.session.specs.Shelved.{Shelved}
 use Rattle.tree_versions.specs.Records.{Grows, RecordView}
 use Rattle.tree_versions.specs.declared.shelf.TheConstants.{MOST_RECORDS}
-use Rattle.wires.specs.Causes.{CountsOne}
+use Rattle.wires.specs.Causes.{CountsOne, Rose}
 use Rattle.wires.specs.Doors.{Beginning}
 use Rattle.wires.specs.declared.doors.Door.{Ghosts as DoorGhosts}
 use Rattle.wires.specs.declared.sinks.Sink.{Ghosts as SinkGhosts}
@@ -41,92 +43,113 @@ door_view g source sink door = record {
   faults = g.door_faults door;
 }
 
--- How many clients came, and how many networks they loaded; and whether a door failed.
-pub record Tally : Type 0 where
-  pub clients : ℕ
-  pub loads : ℕ
-  pub failed : Bool
+-- how one door ended, as the end of several
+abbrev pub end_of : DoorEnd → DoorsEnd
+end_of one = record { clients = one.clients; failed = one.failed }
 
--- A door was served over these records: up to so many clients came, one after another, and each was given back.
--- Unless the door failed, so many came, or it has ended.
-pub record IsServed (records : List RecordView) (quota : ℕ) (old new : DoorView) (all : Tally) : Type 0 where
-  pub visits : List Visit
-  pub told : new.visits ≡ option_map (λ (before : List Visit). before ++ visits) old.visits
-  pub last : ℕ
-  pub answered : AreAnswered records 0 visits last all.loads
-  pub counted : all.clients ≡ length visits
-  pub few : all.clients ≤ quota
-  pub through : all.failed ≡ false → (all.clients ≡ quota) ⊎ (new.ended ≡ true)
-  pub cause : CountsOne old.faults new.faults all.failed
-  pub nobody : new.out ≡ None
+-- how no door ended
+abbrev pub nothing : DoorsEnd
+nothing = record { clients = 0; failed = false }
 
--- a tally of so many clients and networks, and of a fault
-abbrev pub tally : ℕ → ℕ → Bool → Tally
-tally clients loads failed = record { clients = clients; loads = loads; failed = failed }
+-- two ends together
+abbrev pub both : DoorsEnd → DoorsEnd → DoorsEnd
+both one other = record { clients = one.clients + other.clients; failed = one.failed || other.failed }
 
--- The tally of no door.
-pub record IsNothing (all : Tally) : Type 0 where
-  pub clients : all.clients ≡ 0
-  pub loads : all.loads ≡ 0
-  pub failed : all.failed ≡ false
+-- A door was served over these records: up to so many clients came, one after another, and each was given back. They
+-- loaded so many networks. Unless the door failed, so many clients came, or it has ended. Nobody comes through a door
+-- that had ended before, and it stays so.
+pub record IsServed (records : List RecordView) (quota : ℕ) (old new : DoorView) (end : DoorsEnd) (loads : ℕ) : Type 0
+  where
+    pub visits : List Visit
+    pub told : new.visits ≡ option_map (λ (before : List Visit). before ++ visits) old.visits
+    pub last : ℕ
+    pub answered : AreAnswered records 0 visits last loads
+    pub counted : end.clients ≡ length visits
+    pub few : end.clients ≤ quota
+    pub through : end.failed ≡ false → (end.clients ≡ quota) ⊎ (new.ended ≡ true)
+    pub shut : old.ended ≡ true → visits ≡ []
+    pub stays : old.ended ≡ true → new.ended ≡ true
+    pub cause : CountsOne old.faults new.faults end.failed
+    pub nobody : new.out ≡ None
 
--- Two tallies together.
-pub record IsBoth (all one others : Tally) : Type 0 where
-  pub clients : all.clients ≡ one.clients + others.clients
-  pub loads : all.loads ≡ one.loads + others.loads
-  pub failed : all.failed ≡ (one.failed || others.failed)
+-- The first of several doors was served, and P holds of the end of the others and of the networks that were loaded
+-- there.
+pub record ServesOn (records : List RecordView) (quota : ℕ) (old new : DoorView) (end : DoorsEnd) (loads : ℕ)
+    (P : DoorsEnd → ℕ → Type 0) : Type 0 where
+  pub own : DoorsEnd
+  pub others : DoorsEnd
+  pub loaded : ℕ
+  pub more : ℕ
+  pub served : IsServed records quota old new own loaded
+  pub sum : end ≡ both own others
+  pub all_loads : loads ≡ loaded + more
+  pub on : P others more
 
--- The first of several doors was served, and P holds of the tally of the others.
-pub record ServesOn (records : List RecordView) (quota : ℕ) (old new : DoorView) (all : Tally) (P : Tally → Type 0) :
-    Type 0 where
-  pub own : Tally
-  pub others : Tally
-  pub served : IsServed records quota old new own
-  pub sum : IsBoth all own others
-  pub on : P others
+-- Each of these doors was served, together they ended so, and their clients loaded so many networks.
+abbrev pub AreServed : List RecordView → ℕ → List DoorView → List DoorView → DoorsEnd → ℕ → Type 0
+AreServed records quota [] [] end loads = (end ≡ nothing) × (loads ≡ 0)
+AreServed records quota (old ∷ olds) (new ∷ news) end loads =
+    ServesOn records quota old new end loads (λ others more. AreServed records quota olds news others more)
+AreServed records quota [] (new ∷ news) end loads = ⊥
+AreServed records quota (old ∷ olds) [] end loads = ⊥
 
--- Each of these doors was served.
-abbrev pub AreServed : List RecordView → ℕ → List DoorView → List DoorView → Tally → Type 0
-AreServed records quota [] [] all = IsNothing all
-AreServed records quota (old ∷ olds) (new ∷ news) all =
-    ServesOn records quota old new all (λ others. AreServed records quota olds news others)
-AreServed records quota [] (new ∷ news) all = ⊥
-AreServed records quota (old ∷ olds) [] all = ⊥
+-- Doors before they were served and behind it, and how they ended.
+pub record Round (D : Type 0) : Type 0 where
+  pub olds : List D
+  pub news : List D
+  pub end : DoorsEnd
+
+-- One of these doors failed meanwhile.
+abbrev pub AnyRose : List DoorView → List DoorView → Type 0
+AnyRose [] [] = ⊥
+AnyRose (old ∷ olds) (new ∷ news) = Rose old.faults new.faults ⊎ AnyRose olds news
+AnyRose [] (new ∷ news) = ⊥
+AnyRose (old ∷ olds) [] = ⊥
+
+-- A desk's place: the shelf on which it publishes, and the door that it serves.
+pub record Station : Type 0 where
+  pub shelf : Shelved
+  pub door : DoorView
+
+-- that place
+abbrev pub station : Shelved → DoorView → Station
+station shelf door = record { shelf = shelf; door = door }
 
 -- A client that a door had given was served, from a version that was seen, and given back. The door is else as it was.
-pub record ServesClient (seen : ℕ) (begin : Beginning) (start now : Shelved) (old new : DoorView) : Type 0 where
+pub record ServesClient (seen : ℕ) (begin : Beginning) (start now : Station) : Type 0 where
   pub back : ClientView
   pub last : ℕ
   pub loads : ℕ
-  pub answered : IsAnswered now.seen (record { seen = seen; last = last; loads = loads })
+  pub answered : IsAnswered now.shelf.seen (record { seen = seen; last = last; loads = loads })
       (record { begin = begin; back = back })
-  pub told : new.visits
-      ≡ option_map (λ (before : List Visit). before ++ record { begin = begin; back = back } ∷ []) old.visits
-  pub reached : last ≤ length now.seen
-  pub grows : Grows start.seen now.seen
-  pub few : length now.seen ≤ MOST_RECORDS
-  pub counted : now.published ≡ start.published + loads
-  pub nobody : new.out ≡ None
-  pub ended : new.ended ≡ old.ended
-  pub faults : new.faults ≡ old.faults
+  pub told : now.door.visits
+      ≡ option_map (λ (before : List Visit). before ++ record { begin = begin; back = back } ∷ []) start.door.visits
+  pub reached : last ≤ length now.shelf.seen
+  pub grows : Grows start.shelf.seen now.shelf.seen
+  pub few : length now.shelf.seen ≤ MOST_RECORDS
+  pub counted : now.shelf.published ≡ start.shelf.published + loads
+  pub nobody : now.door.out ≡ None
+  pub ended : now.door.ended ≡ start.door.ended
+  pub faults : now.door.faults ≡ start.door.faults
 
 -- So many clients of a door were served, one after another, and given back; it didn't fail.
-pub record HasServed (count : ℕ) (start now : Shelved) (old new : DoorView) : Type 0 where
+pub record HasServed (count : ℕ) (start now : Station) : Type 0 where
   pub visits : List Visit
   pub count_is : length visits ≡ count
   pub last : ℕ
   pub loads : ℕ
-  pub answered : AreAnswered now.seen 0 visits last loads
-  pub told : new.visits ≡ option_map (λ (before : List Visit). before ++ visits) old.visits
-  pub reached : last ≤ length now.seen
-  pub grows : Grows start.seen now.seen
-  pub counted : now.published ≡ start.published + loads
-  pub faults : new.faults ≡ old.faults
+  pub answered : AreAnswered now.shelf.seen 0 visits last loads
+  pub told : now.door.visits ≡ option_map (λ (before : List Visit). before ++ visits) start.door.visits
+  pub shut : start.door.ended ≡ true → visits ≡ []
+  pub stays : start.door.ended ≡ true → now.door.ended ≡ true
+  pub reached : last ≤ length now.shelf.seen
+  pub grows : Grows start.shelf.seen now.shelf.seen
+  pub counted : now.shelf.published ≡ start.shelf.published + loads
+  pub faults : now.door.faults ≡ start.door.faults
 
 -- A door was served by a desk, which published as many records as networks were loaded.
-pub record ServesDoor (quota : ℕ) (start now : Shelved) (old new : DoorView) (clients : ℕ) (failed : Bool) : Type 0
-  where
-    pub loads : ℕ
-    pub served : IsServed now.seen quota old new (tally clients loads failed)
-    pub grows : Grows start.seen now.seen
-    pub counted : now.published ≡ start.published + loads
+pub record ServesDoor (quota : ℕ) (start now : Station) (end : DoorEnd) : Type 0 where
+  pub loads : ℕ
+  pub served : IsServed now.shelf.seen quota start.door now.door (end_of end) loads
+  pub grows : Grows start.shelf.seen now.shelf.seen
+  pub counted : now.shelf.published ≡ start.shelf.published + loads

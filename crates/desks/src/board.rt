@@ -1,9 +1,9 @@
 //! Desks that share a board.
-ghost use Rattle.std.specs.Prelude.{◌≡◌, ◌≤◌, ◌<◌, [], All, None, IfOk, OnErr, OnOk, length, map, sum_by, vec_capacity};
+ghost use Rattle.std.specs.Prelude.{◌≡◌, ◌≤◌, ◌<◌, [], All, None, IfOk, OnErr, OnOk, drop};
+ghost use Rattle.std.specs.Prelude.{length, map, sum_by, vec_capacity};
 ghost use Rattle.desks.specs.Boards.{DoorsServed};
 ghost use Rattle.desks.specs.Doors.{door_view};
 ghost use Rattle.job_queue.specs.declared.jobs.TheConstants.{MOST_WORKERS};
-ghost use Rattle.session.specs.Shelved.{shelved};
 ghost use Rattle.tree_versions.specs.Boards.{IsNew};
 ghost use Rattle.tree_versions.specs.Solo.{IsSoundShelf, views_of};
 ghost use Rattle.tree_versions.specs.declared.opening.TheConstants.{MOST_DESKS};
@@ -138,8 +138,12 @@ where
     requires all { B.all ≡ B.parts }
     requires room { MOST_DESKS < B.parts }
     ensures served { IfOk result (λ served. DoorsServed means.now.quota count (views_of served.records.items)
-        (map (door_view D.Door D.Client.Source D.Client.Sink) doors.old.items)
-        (map (door_view D.Door D.Client.Source D.Client.Sink) doors.new.items) served.clients served.failed) }
+        (record {
+          olds = map (door_view D.Door D.Client.Source D.Client.Sink) doors.old.items;
+          news = map (door_view D.Door D.Client.Source D.Client.Sink) doors.new.items;
+          end = record { clients = served.clients; failed = served.failed };
+        })) }
+    ensures others { drop count doors.new.items ≡ drop count doors.old.items }
     ensures sound { IfOk result (λ served. IsSoundShelf (views_of served.records.items)) }
     ensures kept { OnErr result (doors.new.items ≡ doors.old.items) }
 {
@@ -183,8 +187,12 @@ where
     requires workers { (0 < opening.workers) × (opening.workers ≤ MOST_WORKERS) }
     requires nobody { All (λ door. D.out door ≡ None) doors.old.items }
     ensures served { IfOk result (λ served. DoorsServed opening.sessions opening.desks (views_of served.records.items)
-        (map (door_view D.Door D.Client.Source D.Client.Sink) doors.old.items)
-        (map (door_view D.Door D.Client.Source D.Client.Sink) doors.new.items) served.clients served.failed) }
+        (record {
+          olds = map (door_view D.Door D.Client.Source D.Client.Sink) doors.old.items;
+          news = map (door_view D.Door D.Client.Source D.Client.Sink) doors.new.items;
+          end = record { clients = served.clients; failed = served.failed };
+        })) }
+    ensures others { drop opening.desks doors.new.items ≡ drop opening.desks doors.old.items }
     ensures sound { IfOk result (λ served. IsSoundShelf (views_of served.records.items)) }
     ensures kept { OnErr result (doors.new.items ≡ doors.old.items) }
 {

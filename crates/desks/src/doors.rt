@@ -1,10 +1,9 @@
 //! One door, and the clients that come through it.
 ghost use Rattle.std.specs.Prelude.{◌≡◌, ℕ, ◌≤◌, None, length};
-ghost use Rattle.desks.specs.Doors.{ServesClient, ServesDoor, client_view, door_view};
+ghost use Rattle.desks.specs.Doors.{ServesClient, ServesDoor, client_view, door_view, station};
 ghost use Rattle.desks.specs.Visits.{begin_of};
 ghost use Rattle.session.specs.Shelved.{shelved};
-ghost use Rattle.tree_versions.specs.declared.shelf.TheConstants.{MOST_RECORDS};
-ghost use Rattle.wires.specs.Doors.{Beginning, IsOut};
+ghost use Rattle.wires.specs.Doors.{IsOut};
 
 use session::{Session, serve_session};
 use std::alloc::Global;
@@ -42,9 +41,8 @@ fn serve_client<R: Threads + Wait + Sync, H: Shelf, D: Door, G: Gate + Sync>(
     requires out { IsOut (D.out door.old) (begin_of (client_view D.Client.Source D.Client.Sink client)) }
     ensures { (seen : ℕ) → seen ≤ length (H.seen shelf.old)
         → ServesClient seen (begin_of (client_view D.Client.Source D.Client.Sink client))
-        (shelved H.Shelf shelf.old) (shelved H.Shelf shelf.new)
-        (door_view D.Door D.Client.Source D.Client.Sink door.old)
-        (door_view D.Door D.Client.Source D.Client.Sink door.new) }
+        (station (shelved H.Shelf shelf.old) (door_view D.Door D.Client.Source D.Client.Sink door.old))
+        (station (shelved H.Shelf shelf.new) (door_view D.Door D.Client.Source D.Client.Sink door.new)) }
 {
     let mut client = client;
     serve_session(
@@ -66,9 +64,9 @@ pub(crate) fn serve_door<R: Threads + Wait + Sync, H: Shelf, D: Door, G: Gate + 
     door: &mut D,
 ) -> DoorEnd
     requires nobody { D.out door.old ≡ None }
-    ensures { ServesDoor means.now.quota (shelved H.Shelf shelf.old) (shelved H.Shelf shelf.new)
-        (door_view D.Door D.Client.Source D.Client.Sink door.old)
-        (door_view D.Door D.Client.Source D.Client.Sink door.new) result.clients result.failed }
+    ensures { ServesDoor means.now.quota
+        (station (shelved H.Shelf shelf.old) (door_view D.Door D.Client.Source D.Client.Sink door.old))
+        (station (shelved H.Shelf shelf.new) (door_view D.Door D.Client.Source D.Client.Sink door.new)) result }
 {
     for clients in 0..means.quota {
         match door.next() {

@@ -1,10 +1,9 @@
 //! All doors, by as many desks as there are.
-ghost use Rattle.std.specs.Prelude.{◌≡◌, ◌≤◌, ◌<◌, ◌+◌, ◌*◌, ◌^◌, ◌++◌, ◌||◌, [], All, None, IfOk, OnErr};
-ghost use Rattle.std.specs.Prelude.{false, length, map, sum_by, vec_capacity};
-ghost use Rattle.std.specs.List.{list_any};
+ghost use Rattle.std.specs.Prelude.{◌≡◌, ◌≤◌, ◌<◌, ◌+◌, ◌*◌, ◌^◌, ◌++◌, [], All, None, IfOk, OnErr};
+ghost use Rattle.std.specs.Prelude.{length, map, vec_capacity};
 ghost use Rattle.std.specs.Vec.Iter.{into_iter_items, into_iter_len};
-ghost use Rattle.desks.specs.Desks.{ServesFirst, ServesFront, desk_view};
-ghost use Rattle.desks.specs.Doors.{door_view};
+ghost use Rattle.desks.specs.Desks.{ServesFirst, ServesFront, all_of};
+ghost use Rattle.desks.specs.Doors.{both, door_view, end_of, nothing};
 ghost use Rattle.session.specs.Shelved.{shelved};
 ghost use Rattle.tree_versions.specs.declared.opening.TheConstants.{MOST_DESKS};
 
@@ -28,26 +27,35 @@ pub(crate) struct DoorsEnd {
 }
 
 impl DoorsEnd {
-    /// Both together.
-    fn and(self, other: DoorsEnd) -> DoorsEnd
-        requires { self.clients + other.clients < 2 ^ 64 }
-        ensures clients { result.clients ≡ self.clients + other.clients }
-        ensures failed { result.failed ≡ (self.failed || other.failed) }
-    {
-        DoorsEnd {
-            clients: self.clients + other.clients,
-            failed: self.failed || other.failed,
-        }
-    }
-
     /// That of no door.
     fn none() -> DoorsEnd
-        ensures clients { result.clients ≡ 0 }
-        ensures failed { result.failed ≡ false }
+        ensures { result ≡ nothing }
     {
         DoorsEnd {
             clients: 0,
             failed: false,
+        }
+    }
+
+    /// That of one door.
+    fn of(end: DoorEnd) -> DoorsEnd
+        ensures end { result ≡ end_of end }
+        ensures few { result.clients ≤ 2 ^ 32 }
+    {
+        DoorsEnd {
+            clients: u64::from(end.clients),
+            failed: end.failed,
+        }
+    }
+
+    /// Both together.
+    fn and(self, other: DoorsEnd) -> DoorsEnd
+        requires { self.clients + other.clients < 2 ^ 64 }
+        ensures { result ≡ both self other }
+    {
+        DoorsEnd {
+            clients: self.clients + other.clients,
+            failed: self.failed || other.failed,
         }
     }
 }
@@ -89,8 +97,7 @@ fn leave<H: Drop, D: Drop>(
     requires doors { length doors.old.items + length desks.items ≤ vec_capacity doors.old }
     ensures doors { doors.new.items ≡ doors.old.items ++ map (λ desk. desk.door) desks.items }
     ensures kits { kits.new.items ≡ map (λ desk. desk.kit) desks.items }
-    ensures clients { result.clients ≡ sum_by (λ desk. desk.end.clients) desks.items }
-    ensures failed { result.failed ≡ list_any (λ desk. desk.end.failed) desks.items }
+    ensures end { result ≡ all_of (λ desk. desk.end) desks.items }
     ensures most { result.clients ≤ 2 ^ 32 * length desks.items }
     ensures room { vec_capacity doors.new ≡ vec_capacity doors.old }
     ensures kits_room { vec_capacity kits.new ≡ vec_capacity kits.old }
@@ -100,8 +107,7 @@ fn leave<H: Drop, D: Drop>(
         let Desk { kit, door, end } = desk;
         doors.push_reserved(door);
         kits.push_reserved(kit);
-        all.clients += u64::from(end.clients);
-        all.failed |= end.failed;
+        all = all.and(DoorsEnd::of(end));
     }
     all
 }
@@ -119,8 +125,9 @@ fn serve_left_over<R: Threads + Wait + Sync, H: Shelf, D: Door + Drop, G: Gate +
     requires few { count ≤ MOST_DESKS }
     requires room { length doors.old.items + count ≤ vec_capacity doors.old }
     ensures serves { ServesFront (door_view D.Door D.Client.Source D.Client.Sink) means.now.quota count
-        (shelved H.Shelf kit.old.shelf) (shelved H.Shelf kit.new.shelf) (into_iter_items waiting.old)
-        (into_iter_items waiting.new) doors.old.items doors.new.items result.clients result.failed }
+        (shelved H.Shelf kit.old.shelf) (shelved H.Shelf kit.new.shelf)
+        (record { waiting = into_iter_items waiting.old; doors = doors.old.items })
+        (record { waiting = into_iter_items waiting.new; doors = doors.new.items }) result }
     ensures room { vec_capacity doors.new ≡ vec_capacity doors.old }
     ensures most { result.clients ≤ 2 ^ 32 * count }
 {
@@ -131,8 +138,7 @@ fn serve_left_over<R: Threads + Wait + Sync, H: Shelf, D: Door + Drop, G: Gate +
         };
         let end = serve_door(means, &mut kit.session, &mut kit.shelf, &mut door);
         doors.push_reserved(door);
-        all.clients += u64::from(end.clients);
-        all.failed |= end.failed;
+        all = all.and(DoorsEnd::of(end));
     }
     all
 }
@@ -193,10 +199,9 @@ where
     requires space { length taken.items ≤ vec_capacity doors.old }
     requires desks { (room.desks.items ≡ []) × (length kits.items ≤ vec_capacity room.desks) }
     requires kits { (room.kits.items ≡ []) × (length kits.items ≤ vec_capacity room.kits) }
-    ensures first { ServesFirst means.now.quota count (map (λ kit. shelved H.Shelf kit.shelf) kits.items)
-        (map (λ kit. shelved H.Shelf kit.shelf) result.0.items)
-        (map (door_view D.Door D.Client.Source D.Client.Sink) taken.items)
-        (map (door_view D.Door D.Client.Source D.Client.Sink) doors.new.items) result.1.clients result.1.failed }
+    ensures first { ServesFirst (door_view D.Door D.Client.Source D.Client.Sink) means.now.quota count
+        (map (λ kit. shelved H.Shelf kit.shelf) kits.items) (map (λ kit. shelved H.Shelf kit.shelf) result.0.items)
+        (record { olds = taken.items; news = doors.new.items; end = result.1 }) }
     ensures count { length result.0.items ≡ length kits.items }
 {
     let Room {
@@ -240,10 +245,10 @@ where
     requires enough { count ≤ length doors.old.items }
     requires few { count ≤ MOST_DESKS }
     requires nobody { All (λ door. D.out door ≡ None) doors.old.items }
-    ensures first { IfOk result (λ done. ServesFirst means.now.quota count
+    ensures first { IfOk result (λ done.
+        ServesFirst (door_view D.Door D.Client.Source D.Client.Sink) means.now.quota count
         (map (λ kit. shelved H.Shelf kit.shelf) kits.items) (map (λ kit. shelved H.Shelf kit.shelf) done.0.items)
-        (map (door_view D.Door D.Client.Source D.Client.Sink) doors.old.items)
-        (map (door_view D.Door D.Client.Source D.Client.Sink) doors.new.items) done.1.clients done.1.failed) }
+        (record { olds = doors.old.items; news = doors.new.items; end = done.1 })) }
     ensures count { IfOk result (λ done. length done.0.items ≡ length kits.items) }
     ensures kept { OnErr result (doors.new.items ≡ doors.old.items) }
 {

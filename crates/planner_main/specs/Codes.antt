@@ -1,8 +1,8 @@
 -- The exit statuses of the program.
 use Rattle.std.specs.Prelude.{ℕ}
 use Rattle.planner_server.specs.declared.outcome.Status.{Status}
-use Rattle.planner_server.specs.declared.outcome.Status.TheVariants.{Done, BadWords, ReadFault}
-use Rattle.planner_server.specs.declared.outcome.Status.TheVariants.{WriteFault, NoMemory, TooLong, DoorFault, NotAccepted}
+use Rattle.planner_server.specs.declared.outcome.Status.TheVariants.{Done, BadWords, ReadFault, WriteFault}
+use Rattle.planner_server.specs.declared.outcome.Status.TheVariants.{NoMemory, TooLong, DoorFault, NotAccepted}
 
 -- the exit status that stands for a status of a run
 abbrev pub exit_code : Status → ℕ

@@ -1,4 +1,5 @@
 pub mod Deciding
+pub mod Ending
 pub mod Examples
 pub mod Ranges
 pub mod Reading

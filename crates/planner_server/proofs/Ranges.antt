@@ -6,8 +6,8 @@ use Rattle.std.specs.Prelude.{IfSome}
 use Rattle.std.specs.Option.{option_map}
 use Rattle.std.specs.Str.{bytes_eq}
 use Rattle.std.specs.declared.option.Option.{Option}
-use Rattle.planner_server.specs.Commands.{IsInRanges, IsOpen, check_of, command_of, make_of, making_by, making_of, needed}
-use Rattle.planner_server.specs.Commands.{number_or, plan_of, serve_of, serving_by, serving_of}
+use Rattle.planner_server.specs.Commands.{IsInRanges, IsOpen, check_of, command_of, make_of, making_by, making_of}
+use Rattle.planner_server.specs.Commands.{needed, number_or, plan_of, serve_of, serving_by, serving_of}
 use Rattle.planner_server.specs.Options.{are_options, given_by, given_in, least_of, most_of, number_given, texts_of}
 use Rattle.planner_server.specs.declared.command.Command.{Command}
 use Rattle.planner_server.specs.declared.command.Command.TheVariants.{Plan, Check, Make, Serve}

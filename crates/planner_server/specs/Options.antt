@@ -6,7 +6,8 @@ use Rattle.std.specs.declared.option.Option.{Option}
 use Rattle.planner_server.specs.declared.options.Given.{Given}
 use Rattle.planner_server.specs.declared.options.Given.TheVariants.{Missing, Number, Wrong}
 use Rattle.planner_server.specs.declared.options.OptionName.{OptionName}
-use Rattle.planner_server.specs.declared.options.OptionName.TheVariants.{Workers, Seed, Routers, Links, Port, Desks, Sessions}
+use Rattle.planner_server.specs.declared.options.OptionName.TheVariants.{Workers, Seed, Routers, Links}
+use Rattle.planner_server.specs.declared.options.OptionName.TheVariants.{Port, Desks, Sessions}
 use Rattle.cut_model.specs.declared.network.TheConstants.{MOST_LINKS, MOST_ROUTERS}
 use Rattle.job_queue.specs.declared.jobs.TheConstants.{MOST_WORKERS}
 use Rattle.made_networks.specs.declared.draws.TheConstants.{MOST_SEED}

@@ -1,5 +1,6 @@
 -- What a run of a command leaves.
-use Rattle.std.specs.Prelude.{◌≡◌, ℕ, ◌<◌, ◌≤◌, ◌⊎◌, List, [], ◌∷◌, ◌++◌, Bool, codes, decimal, length, take, true, false, Some, None}
+use Rattle.std.specs.Prelude.{◌≡◌, ℕ, ◌<◌, ◌≤◌, ◌⊎◌, List, [], ◌∷◌, ◌++◌, Bool, true, false, Some, None}
+use Rattle.std.specs.Prelude.{codes, decimal, length, take}
 use Rattle.std.specs.Io.KnownBytes.{Appends}
 use Rattle.std.specs.List.{concat}
 use Rattle.std.specs.declared.option.Option.{Option}
@@ -8,7 +9,7 @@ use Rattle.certifier.specs.Checks.{Checks, Tells}
 use Rattle.certifier.specs.declared.checking.CheckEnd.{CheckEnd}
 use Rattle.certifier.specs.declared.checking.CheckEnd.TheVariants as check_ends
 use Rattle.desks.specs.Boards.{DoorsServed}
-use Rattle.desks.specs.Doors.{DoorView}
+use Rattle.desks.specs.Doors.{AnyRose, DoorView}
 use Rattle.line_reader.specs.declared.reader.TheConstants.{MOST_BYTES}
 use Rattle.made_networks.specs.Draws.{made_net}
 use Rattle.made_networks.specs.Summaries.{IsSummaryOf, summary_text}
@@ -158,6 +159,10 @@ pub record DoorsView : Type 0 where
   pub olds : List DoorView
   pub news : List DoorView
 
+-- a door failed in the run
+abbrev pub DoorFailed : DoorsView → Type 0
+DoorFailed doors = AnyRose doors.olds doors.news
+
 -- The text of the last line of `serve`: how many sessions ended, and how many records there are.
 unfoldable pub served_text : ℕ → ℕ → List ℕ
 served_text sessions versions =
@@ -178,12 +183,16 @@ pub record SinkView : Type 0 where
 abbrev pub sink_view : {K : Type 0} → SinkGhosts K → K → SinkView
 sink_view h sink = record { written = h.written sink; faults = h.write_faults sink }
 
--- The first doors were served, as many as there are desks at most, over the records that are handed back, and P holds of
--- the last line.
+-- The first doors were served, as many as there are desks at most, over the records that are handed back, and P holds
+-- of the last line.
 pub record Serves (serving : Serving) (records : List RecordView) (doors : DoorsView) (failed : Bool)
     (P : List ℕ → Type 0) : Type 0 where
   pub clients : ℕ
-  pub served : DoorsServed serving.sessions serving.desks records doors.olds doors.news clients failed
+  pub served : DoorsServed serving.sessions serving.desks records (record {
+    olds = doors.olds;
+    news = doors.news;
+    end = record { clients = clients; failed = failed };
+  })
   pub line : P (served_text clients (length records))
 
 -- what was done in a run of `serve` that ended so, and what the sink showed before and shows now
@@ -193,7 +202,7 @@ ServeEnds serving Done records doors before now =
 ServeEnds serving WriteFault records doors before now =
     Serves serving records doors false (λ line. AppendsFront before.written now.written line)
 ServeEnds serving DoorFault records doors before now = Serves serving records doors true
-    (λ line. Appends before.written now.written line
+    (λ line. (Appends before.written now.written line × (now.faults ≡ before.faults))
     ⊎ (Rose before.faults now.faults × AppendsFront before.written now.written line))
 ServeEnds serving NoMemory records doors before now = (doors.news ≡ doors.olds) × (records ≡ [])
 ServeEnds serving BadWords records doors before now = ⊥
@@ -201,14 +210,18 @@ ServeEnds serving ReadFault records doors before now = ⊥
 ServeEnds serving TooLong records doors before now = ⊥
 ServeEnds serving NotAccepted records doors before now = ⊥
 
--- The doors were served, as the end says. Where no put fails, the last line was written whole, unless memory was wanted.
+-- The doors were served, as the end says. Where no put fails and no door, the last line was written whole, unless
+-- memory was wanted. A fault is told only where there was one.
 pub record ServeRan (serving : Serving) (status : Status) (run : RunView) (doors : DoorsView) : Type 0 where
   pub ends : ServeEnds serving status run.records doors
       (record { written = run.start.wire.written; faults = run.start.write_faults })
       (record { written = run.now.wire.written; faults = run.now.write_faults })
-  pub completes : (WriteFailed run → ⊥) → (status ≡ WriteFault → ⊥)
+  pub completes : (WriteFailed run → ⊥) → (DoorFailed doors → ⊥) → (status ≡ Done) ⊎ (status ≡ NoMemory)
+  pub put_cause : (WriteFailed run → ⊥) → (status ≡ WriteFault → ⊥)
+  pub door_cause : status ≡ DoorFault → DoorFailed doors
 
--- At this end nothing was read or written: where there is no command, and where `plan`, `make` or `serve` had no memory.
+-- At this end nothing was read or written: where there is no command, and where `plan`, `make` or `serve` had no
+-- memory.
 abbrev pub IsUntouched : Option Command → Status → Type 0
 IsUntouched None status = Unit {0}
 IsUntouched (Some (Plan workers)) status = status ≡ NoMemory
@@ -231,7 +244,10 @@ Ran Check status run doors = CheckRan status run
 Ran (Make making) status run doors = MakeRan making status run
 Ran (Serve serving) status run doors = ServeRan serving status run doors
 
--- A run asks no door: where there is no command, and of each command but `serve`.
-abbrev pub AsksNoDoor : Option Command → Type 0
-AsksNoDoor (Some (Serve serving)) = ⊥
-AsksNoDoor command = Unit {0}
+-- how many doors a run may ask, the first ones: as many as `serve` has desks, and else none
+abbrev pub doors_asked : Option Command → ℕ
+doors_asked None = 0
+doors_asked (Some (Plan workers)) = 0
+doors_asked (Some Check) = 0
+doors_asked (Some (Make making)) = 0
+doors_asked (Some (Serve serving)) = serving.desks

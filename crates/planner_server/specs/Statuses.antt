@@ -35,8 +35,8 @@ abbrev pub is_write_fault : Status → Bool
 is_write_fault WriteFault = true
 is_write_fault status = false
 
--- the count of a sink's faults is one more where the run ended by a failed put, and else as before; where a door failed a
--- put may have failed as well
+-- the count of a sink's faults is one more where the run ended by a failed put, and else as before; where a door failed
+-- a put may have failed as well
 abbrev pub CountsPut : Status → ℕ → ℕ → Type 0
 CountsPut DoorFault before now = (failed : Bool) × CountsOne before now failed
 CountsPut status before now = CountsOne before now (is_write_fault status)

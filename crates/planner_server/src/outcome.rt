@@ -17,14 +17,14 @@ pub enum Status {
     /// The sink failed. A front of the items is answered, but for at most a part of the last of these
     /// replies; of the line on a certificate, of a summary, or of the last line of `serve`, a front is written.
     WriteFault,
-    /// There was no memory: for requests or desks to begin with, or for a made network, and nothing was read or written
-    /// and no door was asked; for a certificate at any moment, and nothing was written.
+    /// There was no memory: for requests or desks to begin with, or for a made network, and nothing was read or
+    /// written and no door was asked; for a certificate at any moment, and nothing was written.
     NoMemory,
     /// [`MOST_BYTES`](line_reader::MOST_BYTES) were read, and neither the end of the input nor a BYE came; or
     /// nothing that settles whether they are a certificate.
     TooLong,
-    /// A door failed. All other doors were served as at `Done`, and the last line is written, or a front of it where the
-    /// sink failed as well.
+    /// A door failed. All other doors were served as at `Done`, and the last line is written, or a front of it where
+    /// the sink failed as well.
     DoorFault,
     /// A certificate has a fault, and the line that tells it is written.
     NotAccepted,

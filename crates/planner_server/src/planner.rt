@@ -1,18 +1,18 @@
 //! The top call.
 ghost use Rattle.std.specs.Prelude.{◌≡◌, ◌≢◌, ◌<◌, ◌≤◌, ◌↔◌, ◌⊎◌, [], All, None, false};
-ghost use Rattle.std.specs.Prelude.{length, map, IfOk, IfSome};
+ghost use Rattle.std.specs.Prelude.{drop, length, map, IfOk, IfSome};
 ghost use Rattle.std.specs.String.{string_bytes};
+ghost use Rattle.desks.specs.Doors.{AnyRose, door_view};
 ghost use Rattle.job_queue.specs.declared.jobs.TheConstants.{MOST_WORKERS};
 ghost use Rattle.planner_server.specs.Commands.{IsInRanges, IsOpen, command_of};
-ghost use Rattle.planner_server.specs.Runs.{AsksNoDoor, CheckRan, IsMadeSummary, IsUntouched, MakeEnds, PlanRan, Ran};
-ghost use Rattle.planner_server.specs.Runs.{ReadsNothing, ServeEnds, ports, served_text, sink_view};
+ghost use Rattle.planner_server.specs.Runs.{CheckRan, IsMadeSummary, IsUntouched, MakeEnds, PlanRan, Ran};
+ghost use Rattle.planner_server.specs.Runs.{ReadsNothing, ServeEnds, doors_asked, ports, served_text, sink_view};
 ghost use Rattle.planner_server.specs.Statuses.{CountsPut, is_read_fault, is_write_fault, serve_status, status_of};
 ghost use Rattle.tree_versions.specs.Records.{AreCutTrees, AreFinished};
 ghost use Rattle.tree_versions.specs.Solo.{IsSoundShelf, views_of};
 ghost use Rattle.tree_versions.specs.declared.shelf.TheConstants.{MOST_RECORDS};
 ghost use Rattle.wires.specs.Causes.{CountsOne, Rose};
 ghost use Rattle.wires.specs.Puts.{Puts};
-ghost use Rattle.desks.specs.Doors.{door_view};
 
 use crate::command::{Command, Making, Serving, read_command};
 use crate::{Outcome, Status};
@@ -284,7 +284,15 @@ where
       news = map (door_view D.Door D.Client.Source D.Client.Sink) doors.new.items;
     }) (sink_view K.Sink sink.old) (sink_view K.Sink sink.new) }
     ensures completes { (Rose (K.write_faults sink.old) (K.write_faults sink.new) → ⊥)
+        → (AnyRose (map (door_view D.Door D.Client.Source D.Client.Sink) doors.old.items)
+        (map (door_view D.Door D.Client.Source D.Client.Sink) doors.new.items) → ⊥)
+        → (result.status ≡ Status.Done) ⊎ (result.status ≡ Status.NoMemory) }
+    ensures put_cause { (Rose (K.write_faults sink.old) (K.write_faults sink.new) → ⊥)
         → result.status ≡ Status.WriteFault → ⊥ }
+    ensures door_cause { result.status ≡ Status.DoorFault
+        → AnyRose (map (door_view D.Door D.Client.Source D.Client.Sink) doors.old.items)
+        (map (door_view D.Door D.Client.Source D.Client.Sink) doors.new.items) }
+    ensures others { drop serving.desks doors.new.items ≡ drop serving.desks doors.old.items }
     ensures good_words { result.status ≢ Status.BadWords }
     ensures no_read { is_read_fault result.status ≡ false }
     ensures untouched { result.status ≡ Status.NoMemory → (sink.new ≡ sink.old)
@@ -330,16 +338,15 @@ where
 /// [one](made_networks::laws::summary_is_one), whatever the workers did.
 ///
 /// Of `plan` and `serve`, `NoMemory` comes only before the first read or the first call of a door, and of `check` and
-/// `make` only before the put. A run takes
-/// at most [`MOST_BYTES`](line_reader::MOST_BYTES) from its source. `plan` keeps at most
-/// [`MOST_RECORDS`](tree_versions::MOST_RECORDS) records of up to about 520 kB each, and some 630 kB beside, most of
-/// it for a flow; while a tree is built, it takes up to 450 kB for each worker. `check` keeps less than 2 MB. `make`
-/// keeps one network with its tree, and takes up to 450 kB for each worker.
+/// `make` only before the put. A run takes at most [`MOST_BYTES`](line_reader::MOST_BYTES) from its source. `plan`
+/// keeps at most [`MOST_RECORDS`](tree_versions::MOST_RECORDS) records of up to about 520 kB each, and some 630 kB
+/// beside, most of it for a flow; while a tree is built, it takes up to 450 kB for each worker. `check` keeps less
+/// than 2 MB. `make` keeps one network with its tree, and takes up to 450 kB for each worker.
 ///
-/// `serve`, with the options `--port`, `--desks` and `--sessions`, and `--workers`, serves the clients of the first doors,
-/// as many as there are desks at most, so many sessions at each, and puts one line at last: how many sessions ended, and
-/// how many records there are. All clients load networks into one list. The contract says of each door what its clients
-/// were answered (`DoorsServed` in `desks/specs/Boards.antt`). The doors behind the first are left alone.
+/// `serve`, with the options `--port`, `--desks` and `--sessions`, and `--workers`, serves the clients of the first
+/// doors, as many as there are desks at most, so many sessions at each, and puts one line at last: how many sessions
+/// ended, and how many records there are. All clients load networks into one list. The contract says of each door what
+/// its clients were answered (`DoorsServed` in `desks/specs/Boards.antt`). The doors behind the first are left alone.
 pub fn run<R: Threads + Wait + Sync, S: Source, K: Sink, D: Door + Send + Drop, G: Gate + Sync>(
     alloc: Global,
     rt: &R,
@@ -372,8 +379,10 @@ where
     // Nothing was read at all where there is no command, and by `make` and `serve`.
     ensures unread { ReadsNothing (command_of (map string_bytes words.now)) → source.new ≡ source.old }
 
-    // No door was asked where the command isn't `serve`, and where there was no memory.
-    ensures unasked { AsksNoDoor (command_of (map string_bytes words.now)) → doors.new.items ≡ doors.old.items }
+    // No door was asked behind the first, as many as `serve` has desks; none at all by another command, and where there
+    // was no memory.
+    ensures unasked { drop (doors_asked (command_of (map string_bytes words.now))) doors.new.items
+        ≡ drop (doors_asked (command_of (map string_bytes words.now))) doors.old.items }
     ensures no_desk { result.status ≡ Status.NoMemory → doors.new.items ≡ doors.old.items }
 
     ensures no_record { (result.status ≡ Status.BadWords) ⊎ (result.status ≡ Status.NoMemory)

@@ -1,8 +1,9 @@
-use Rattle.std.proofs.Common.{◌∙◌, [], ◌∷◌, ◌++◌, ◌||◌, ap, append_assoc, arith, length-append, sym}
+use Rattle.std.proofs.Common.{◌∙◌, [], ◌∷◌, ◌++◌, ap, append_assoc, arith, length-append, sym}
 use Rattle.std.proofs.lemmas.List.{map-append}
-use Rattle.std.proofs.lemmas.List.Sums.{sum_by-append}
 use Rattle.std.specs.Vec.Iter.{into_iter_items}
-use Rattle.desks.proofs.Desking.{any-last}
+use Rattle.desks.specs.Doors.{both, end_of}
+use Rattle.desks.specs.declared.seating.DoorsEnd.{DoorsEnd}
+use Rattle.desks.proofs.Desking.{all-last}
 use Rattle.desks.proofs.seating.leave.Goals as goal
 
 pub loop-desk-preserved : goal.loop-desk-preserved
@@ -17,9 +18,15 @@ loop-desk-preserved g c =
           ∙ ap (λ doors. c.args.doors.now.items ++ doors) (sym (map-append (λ d. d.door) before (desk ∷ []))),
       c.push_reserved-in-loop-desk.ensures.items ∙ ap (λ kits. kits ++ desk.kit ∷ []) loop.2
           ∙ sym (map-append (λ d. d.kit) before (desk ∷ [])),
-      omega (arith, loop.3, c.from.ensures, sum_by-append (λ d. d.end.clients) before (desk ∷ [])),
-      ap (λ failed. failed || desk.end.failed) loop.4 ∙ any-last (λ d. d.end.failed) before desk,
-      omega (arith, loop.5, c.from.ensures, length-append before (desk ∷ [])),
-      c.push_reserved.ensures.capacity ∙ loop.6,
-      c.push_reserved-in-loop-desk.ensures.capacity ∙ loop.7,
+      c.and-all.ensures ∙ ap (both c.loop-desk.all) c.of.ensures.end
+          ∙ ap (λ (end : DoorsEnd). both end (end_of desk.end)) loop.3 ∙ all-last (λ d. d.end) before desk,
+      omega (
+        arith,
+        loop.4,
+        ap (λ (end : DoorsEnd). end.clients) c.and-all.ensures,
+        c.of.ensures.few,
+        length-append before (desk ∷ []),
+      ),
+      c.push_reserved.ensures.capacity ∙ loop.5,
+      c.push_reserved-in-loop-desk.ensures.capacity ∙ loop.6,
     )

@@ -9,8 +9,9 @@ use Rattle.desks.proofs.seating.serve_left_over.Given as goal
 abbrev pub invariant-loop-number : goal.invariant-loop-number
 invariant-loop-number g l =
     ServesFront (door_view g.D.Door g.D.Client.Source g.D.Client.Sink) l.fn.means.quota l._number
-    (shelved g.H.Shelf l.fn.kit.shelf) (shelved g.H.Shelf l.kit.shelf) (into_iter_items l.fn.waiting)
-    (into_iter_items l.waiting) l.fn.doors.items l.doors.items l.all.clients l.all.failed
+    (shelved g.H.Shelf l.fn.kit.shelf) (shelved g.H.Shelf l.kit.shelf)
+    (record { waiting = into_iter_items l.fn.waiting; doors = l.fn.doors.items })
+    (record { waiting = into_iter_items l.waiting; doors = l.doors.items }) l.all
     × All (λ door. g.D.Door.out door ≡ None) (into_iter_items l.waiting)
     × (into_iter_len l.waiting + l._number ≡ into_iter_len l.fn.waiting)
     × (l.all.clients ≤ 2 ^ 32 * l._number)

@@ -1,11 +1,12 @@
-use Rattle.std.proofs.Common.{All, ◌≡◌, ◌∙◌, ◌++◌, ◌-◌, None, ap, arith, length, map, subst, sym}
+use Rattle.std.proofs.Common.{All, List, ◌≡◌, ◌∙◌, ◌++◌, ◌-◌, None, ap, arith, length, map, subst, sym}
 use Rattle.std.proofs.lemmas.Bool.{false≢true}
 use Rattle.std.proofs.lemmas.List.{length-map}
 use Rattle.std.specs.Vec.Iter.{into_iter_items}
+use Rattle.desks.specs.Desks.{ServesFront}
 use Rattle.desks.specs.Doors.{door_view}
 use Rattle.desks.specs.declared.desk.Desk.{Desk}
 use Rattle.desks.specs.declared.desk.Kit.{Kit}
-use Rattle.desks.proofs.Desking.{AllServed, Sight, all-back, all-front, first-served}
+use Rattle.desks.proofs.Desking.{AllServed, FirstDoors, Sight, all-back, all-front, first-served}
 use Rattle.session.specs.Shelved.{shelved}
 use Rattle.desks.proofs.seating.serve_taken.Goals as goal
 
@@ -44,40 +45,37 @@ returns-clause-first g c =
     let sight : Sight (Desk g.row.H.Denot g.row.D.Denot) (Kit g.row.H.Denot) g.row.D.Denot = record {
       kit_of = λ desk. desk.kit;
       door_of = λ desk. desk.door;
-      clients_of = λ desk. desk.end.clients;
-      failed_of = λ desk. desk.end.failed;
+      end_at = λ desk. desk.end;
       shelf_in = λ kit. shelved g.H.Shelf kit.shelf;
       see = see;
     } in
     let rest = c.serve_left_over-rest in
-    let waiting = into_iter_items rest.new.waiting in
-    let all : AllServed sight c.args.means.now.quota c.args.count c.args.kits.items c.pop.new.self.items rest.new.kit
-    c.args.taken.items rest.new.doors.items waiting c.work_at_doors.new.desks.items rest.result.clients
-    rest.result.failed = record {
-      olds = c.seat.new.desks.items;
-      left = into_iter_items c.seat.new.waiting;
-      doors = c.leave-first.new.doors.items;
+    let first : FirstDoors (Desk g.row.H.Denot g.row.D.Denot) (Kit g.row.H.Denot) g.row.D.Denot = record {
+      kits = c.args.kits.items;
+      front = c.pop.new.self.items;
       before = c.in-Some.last;
+      last = rest.new.kit;
+      taken = c.args.taken.items;
+      left = into_iter_items c.seat.new.waiting;
+      olds = c.seat.new.desks.items;
+      news = c.work_at_doors.new.desks.items;
+      after = record { waiting = into_iter_items rest.new.waiting; doors = rest.new.doors.items };
+      end = rest.result;
+    } in
+    let doors_are : c.leave-first.new.doors.items ≡ map (λ desk. desk.door) first.news =
+    c.leave-first.ensures.doors
+    ∙ ap (λ doors. doors ++ map (λ desk. desk.door) c.work_at_doors.new.desks.items) c.requires.none in
+    let all : AllServed sight c.args.means.now.quota c.args.count first = record {
       rest = c.args.count - c.len-seats.result;
       seated = sym c.into_iter-waiting.ensures.rest ∙ c.seat.ensures.doors;
       kits_are = c.seat.ensures.kits;
       size = c.work_at_doors.ensures.count;
       each = c.work_at_doors.ensures.each;
       popped = sym c.leave-first.ensures.kits ∙ c.in-Some.ensures.items;
-      doors_are = c.leave-first.ensures.doors
-          ∙ ap (λ doors. doors ++ map (λ desk. desk.door) c.work_at_doors.new.desks.items) c.requires.none;
-      over = rest.ensures.serves;
+      over = subst (λ (doors : List g.row.D.Denot). ServesFront see c.args.means.now.quota
+          (c.args.count - c.len-seats.result) (sight.shelf_in first.before) (sight.shelf_in first.last)
+          (record { waiting = first.left; doors = doors }) first.after first.end) doors_are rest.ensures.serves;
       fit = omega (arith, c.requires.seats, c.len-seats.ensures);
     } in
-    let served = first-served sight c.args.means.now.quota c.args.count c.args.kits.items c.pop.new.self.items
-    rest.new.kit c.args.taken.items rest.new.doors.items waiting c.work_at_doors.new.desks.items rest.result.clients
-    rest.result.failed all in
-    rw (
-      c.push_reserved.ensures.items,
-      c.put_behind.ensures.doors,
-      c.and.ensures.clients,
-      c.and.ensures.failed,
-      c.leave-first.ensures.clients,
-      c.leave-first.ensures.failed,
-    )
-    served
+    rw (c.push_reserved.ensures.items, c.put_behind.ensures.doors, c.and.ensures, c.leave-first.ensures.end)
+    (first-served sight c.args.means.now.quota c.args.count first all)
