@@ -5,5 +5,7 @@ mod board;
 mod desk;
 mod doors;
 mod seating;
+#[cfg(test)]
+mod tests;
 
 pub use board::{Opening, Served, serve_doors};
