@@ -5,8 +5,8 @@ ghost use Rattle.tree_versions.specs.declared.opening.TheConstants.{MOST_DESKS};
 ghost use Rattle.tree_versions.specs.declared.tests.TheConstants.{TURNS};
 
 use crate::{
-    Board, BoardFault, BoardWriter, DeskShelf, MOST_DESKS, MOST_RECORDS, OpenedLog, Publisher,
-    Record, Seat, Shelf, SoloShelf, close_board, make_board,
+    Board, BoardFault, BoardWriter, DeskShelf, MOST_DESKS, MOST_RECORDS, Note, OpenedLog,
+    PublishFault, Publisher, Record, Seat, Shelf, SoloShelf, close_board, make_board,
 };
 use commit_rule::complete;
 use network_text::{Fed, Reader};
@@ -52,7 +52,7 @@ struct Desk<H: Shelf> {
     record: Arc<Record>,
     router: u8,
     accepted: u32,
-    wrong: u32,
+    wrong: bool,
     ghost counted: { H.published shelf ≡ accepted },
     ghost few: { accepted ≤ TURNS },
 }
@@ -84,7 +84,7 @@ impl<H: Shelf> Desk<H> {
             .is_none()
             || shelf.look() < version
         {
-            *wrong = 1;
+            *wrong = true;
         }
     }
 
@@ -112,7 +112,7 @@ fn desk_of<H: Shelf + Drop>(alloc: Global, shelf: H, router: u8) -> Result<Desk<
         record: record_of(alloc, router)?,
         router,
         accepted: 0,
-        wrong: 0,
+        wrong: false,
     })
 }
 
@@ -141,7 +141,7 @@ fn make_desks<'a, B: Board, S: Wait + Drop, R: Wait>(
 fn leave_desks<'a, B: Board, S: Wait + Drop, R: Wait>(
     desks: Vec<SeatedDesk<'a, B, S, R>>,
     seats: &mut Vec<Seat<B>>,
-) -> (u32, u32)
+) -> (u32, bool)
     requires few { length desks.items ≤ MOST_DESKS }
     requires none { seats.old.items ≡ [] }
     requires room { length desks.items ≤ vec_capacity seats.old }
@@ -150,7 +150,7 @@ fn leave_desks<'a, B: Board, S: Wait + Drop, R: Wait>(
 {
     let mut desks = desks;
     let mut all = 0;
-    let mut any = 0;
+    let mut any = false;
     while let Some(desk) = desks.pop() {
         let Desk {
             shelf,
@@ -172,7 +172,7 @@ fn work_two_desks<B: Board + Send + Sync, R: Threads + Wait + Sync>(
     rt: &R,
     opened: OpenedLog,
     blank: Blank,
-) -> Result<(Vec<Arc<Record>>, u32, u32), Fail>
+) -> Result<(Vec<Arc<Record>>, u32, bool), Fail>
     requires log { opened.seen.book ≡ B.log }
     requires name { blank.name ≡ B.name }
     requires parts { blank.parts ≡ B.parts }
@@ -196,13 +196,26 @@ fn what_two_desks_publish_stands_at_its_versions(rt: HostRuntime) -> Result<(), 
         OpenedLog::new(),
         blank,
     )?;
-    assert_eq!(rt; (records.len(), accepted, wrong), (40, 40, 0));
+    assert_eq!(rt; (records.len(), accepted, wrong), (40, 40, false));
     Ok(())
 }
 
-/// A record is published for the first of three seats. The second sees it untold, and the third as a shelf, which then
-/// learns it.
-fn look_from_three_seats<B: Board, R: Wait + Abort + AllocGlobal>(
+/// Publishes a record for a seat, and gives the note that has it.
+fn publish_one<B: Board, S: Wait + Drop, R: Wait + AllocGlobal>(
+    rt: &R,
+    publisher: &Publisher<B, BoardWriter<B, S>>,
+    seat: &mut Seat<B>,
+) -> Result<Note<B>, Fail> {
+    let alloc = rt.alloc();
+    let record = record_of(alloc, b'a')?;
+    match publisher.publish(alloc, rt, seat, record) {
+        Ok(note) => Ok(note),
+        Err(_) => Err(Fail::from("refused")),
+    }
+}
+
+/// A record is published for the first of two seats, and the second, which has never looked, learns the note of it.
+fn learn_at_another_seat<B: Board, R: Wait + Abort + AllocGlobal>(
     rt: &R,
     opened: OpenedLog,
     blank: Blank,
@@ -213,37 +226,62 @@ fn look_from_three_seats<B: Board, R: Wait + Abort + AllocGlobal>(
     requires all { B.all ≡ B.parts }
     requires room { MOST_DESKS < B.parts }
 {
-    let alloc = rt.alloc();
-    let (publisher, mut seats) = make_board::<B, &R>(alloc, rt, 3, opened, blank)?;
-    assert_eq!(rt; seats.len(), 3);
-    let record = record_of(alloc, b'a')?;
-    let Ok(note) = publisher.publish(alloc, rt, &mut seats[0], record) else {
-        return Err(Fail::from("refused"));
-    };
-    assert_eq!(rt; note.version(), 1);
+    let (publisher, mut seats) = make_board::<B, &R>(rt.alloc(), rt, 2, opened, blank)?;
+    assert_eq!(rt; seats.len(), 2);
+    let note = publish_one(rt, &publisher, &mut seats[0])?;
+    let told = note.version();
+    assert_eq!(rt; told, 1);
+    seats[1].learn(note);
+    assert!(rt; seats[1].look() >= told);
+    Ok(())
+}
+
+#[test]
+fn a_seat_sees_what_it_was_told_of(rt: HostRuntime) -> Result<(), Fail> {
+    let blank = Blank::new(u64::from(MOST_DESKS) + 1);
+    learn_at_another_seat::<Brand, _>(&rt, OpenedLog::new(), blank)
+}
+
+/// A record is published for the first of two seats, and the second, which learns nothing, looks.
+fn look_from_another_seat<B: Board, R: Wait + Abort + AllocGlobal>(
+    rt: &R,
+    opened: OpenedLog,
+    blank: Blank,
+) -> Result<(), Fail>
+    requires log { opened.seen.book ≡ B.log }
+    requires name { blank.name ≡ B.name }
+    requires parts { blank.parts ≡ B.parts }
+    requires all { B.all ≡ B.parts }
+    requires room { MOST_DESKS < B.parts }
+{
+    let (publisher, mut seats) = make_board::<B, &R>(rt.alloc(), rt, 2, opened, blank)?;
+    assert_eq!(rt; seats.len(), 2);
+    let _note = publish_one(rt, &publisher, &mut seats[0])?;
     assert_eq!(rt; seats[0].versions(), 0);
     assert_eq!(rt; seats[1].look(), 1);
-    assert_eq!(rt; seats[1].record_at(1).sheet().net().routers(), 1);
-    let Some(third) = seats.pop() else {
-        return Err(Fail::from("no seat"));
-    };
-    let mut shelf = DeskShelf::make(alloc, rt, third, &publisher);
-    assert_eq!(rt; shelf.look(), 1);
-    let mut third = shelf.into_seat();
-    third.learn(note);
-    assert_eq!(rt; third.look(), 1);
-    seats.push_reserved(third);
-    assert_eq!(rt; close_board(rt, publisher, seats).len(), 1);
+    assert_eq!(rt; seats[1].record_at(1).sheet().number_of(b"a"), Some(0));
     Ok(())
 }
 
 #[test]
 fn a_seat_sees_what_it_was_not_told_of(rt: HostRuntime) -> Result<(), Fail> {
     let blank = Blank::new(u64::from(MOST_DESKS) + 1);
-    look_from_three_seats::<Brand, _>(&rt, OpenedLog::new(), blank)
+    look_from_another_seat::<Brand, _>(&rt, OpenedLog::new(), blank)
 }
 
-/// A board takes as many records as there may be, and hands the next one back.
+/// Fills a shelf with a record, over and over. Each stands at the next version, and no more can be published.
+fn fill<H: Shelf, R: Abort>(rt: &R, shelf: &mut H, record: &Arc<Record>) -> Result<(), Fail> {
+    for version in 1..=MOST_RECORDS {
+        let more = Arc::try_clone(record)?;
+        assert_eq!(rt; shelf.publish(more), Ok(version));
+    }
+    let more = Arc::try_clone(record)?;
+    assert_eq!(rt; shelf.publish(more), Err(PublishFault::Full));
+    assert_eq!(rt; shelf.look(), MOST_RECORDS);
+    Ok(())
+}
+
+/// A desk fills its shelf, and then the next record is handed back to its seat.
 fn publish_one_too_many<B: Board, R: Wait + Abort + AllocGlobal>(
     rt: &R,
     opened: OpenedLog,
@@ -258,18 +296,18 @@ fn publish_one_too_many<B: Board, R: Wait + Abort + AllocGlobal>(
     let alloc = rt.alloc();
     let (publisher, mut seats) = make_board::<B, &R>(alloc, rt, 1, opened, blank)?;
     let record = record_of(alloc, b'a')?;
-    for _ in 0..MOST_RECORDS {
-        let more = Arc::try_clone(&record)?;
-        assert!(rt; publisher.publish(alloc, rt, &mut seats[0], more).is_ok());
-    }
-    let Err(refused) = publisher.publish(alloc, rt, &mut seats[0], record) else {
-        return Err(Fail::from("accepted"));
+    let Some(seat) = seats.pop() else {
+        return Err(Fail::from("no seat"));
     };
-    let (fault, _record) = refused;
-    let BoardFault::Full(note) = fault else {
-        return Err(Fail::from("no memory"));
+    let mut shelf = DeskShelf::make(alloc, rt, seat, &publisher);
+    fill(rt, &mut shelf, &record)?;
+    let mut seat = shelf.into_seat();
+    let Err((BoardFault::Full(note), _record)) = publisher.publish(alloc, rt, &mut seat, record)
+    else {
+        return Err(Fail::from("not refused so"));
     };
     assert_eq!(rt; note.version(), MOST_RECORDS);
+    seats.push_reserved(seat);
     assert_eq!(rt;
         close_board(rt, publisher, seats).len(),
         MOST_RECORDS as usize
