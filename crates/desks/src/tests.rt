@@ -79,13 +79,14 @@ fn serve<R: Threads + Wait + Sync + AllocGlobal, G: Gate + Sync>(
     Ok(serve_doors(rt.alloc(), rt, opening, doors, gate)?)
 }
 
-/// How many clients came back through doors with this reply alone.
-fn replied(doors: &[MemoryDoor], reply: &[u8]) -> usize {
-    doors
-        .iter()
-        .flat_map(|door| door.served())
-        .filter(|client| client.sink.written() == reply)
-        .count()
+/// Whether a client came back through a door with this reply alone.
+fn was_told(door: &MemoryDoor, reply: &[u8]) -> bool {
+    for client in door.served() {
+        if client.sink.written() == reply {
+            return true;
+        }
+    }
+    false
 }
 
 #[test]
@@ -95,8 +96,9 @@ fn the_clients_of_two_doors_load_into_one_list(rt: HostRuntime) -> Result<(), Fa
     let served = serve(&rt, 2, &mut doors, &OpenGate)?;
     assert!(rt; !served.failed);
     assert_eq!(rt; (served.clients, served.records.len()), (4, 4));
+    assert_eq!(rt; doors.len(), 2);
     for reply in REPLIES {
-        assert_eq!(rt; replied(&doors, reply), 1);
+        assert!(rt; was_told(&doors[0], reply) || was_told(&doors[1], reply));
     }
     Ok(())
 }
@@ -134,22 +136,23 @@ fn a_door_that_fails_is_told_and_not_asked_again(rt: HostRuntime) -> Result<(), 
 
 #[test]
 fn a_door_for_which_there_is_no_desk_is_left_alone(rt: HostRuntime) -> Result<(), Fail> {
+    // (the second one would fail)
     let alloc = rt.alloc();
     let mut doors = two_doors(alloc, door(alloc, 1, ONE, 0)?, door(alloc, 1, ONE, 1)?)?;
     assert!(rt; serves(&rt, 1, &mut doors, 1, false)?);
+    assert_eq!(rt; doors.len(), 2);
     assert!(rt; doors[1].served().is_empty());
-    // (it would have failed)
-    assert!(rt; serves(&rt, 2, &mut doors, 0, true)?);
     Ok(())
 }
 
 #[test]
-fn fewer_doors_than_desks_and_fewer_clients_than_asked_for(rt: HostRuntime) -> Result<(), Fail> {
+fn there_may_be_fewer_doors_and_clients_than_are_asked_for(rt: HostRuntime) -> Result<(), Fail> {
     let alloc = rt.alloc();
     let mut none = Vec::new(alloc);
     assert!(rt; serves(&rt, MOST_DESKS, &mut none, 0, false)?);
     let mut doors = two_doors(alloc, door(alloc, 3, ONE, 0)?, door(alloc, 0, ONE, 0)?)?;
     assert!(rt; serves(&rt, MOST_DESKS, &mut doors, 3, false)?);
+    assert_eq!(rt; doors.len(), 2);
     assert_eq!(rt; doors[0].served().len(), 3);
     Ok(())
 }
