@@ -7,12 +7,14 @@ use cut_model::{LeastCut, Network};
 use dinic_flow::FlowDesk;
 use session::{Session, SessionEnd, serve_session};
 use std::alloc::Global;
+use std::io::{Read, Write};
+use std::net::{Ipv4Addr, SocketAddr, TcpListener, TcpStream};
 use std::sync::Wait;
 use std::sync::atomic::{AtomicU64, Ordering};
 use std::test::Fail;
 use std::thread::{self, Threads};
 use tree_versions::SoloShelf;
-use wires::{MemoryDoor, MemoryPeer, MemorySink, MemorySource};
+use wires::{MemoryDoor, MemoryPeer, MemorySink, MemorySource, TcpDoor};
 use worker_gate::{Gate, OpenGate, compute};
 
 /// How often a gate looks, before it notes that it waited in vain.
@@ -291,13 +293,29 @@ fn as_many_workers_build_a_tree_as_the_words_ask_for(rt: HostRuntime) -> Result<
     Ok(())
 }
 
-/// A door with so many clients who send `FIRST`, of which this call for one fails, if they are so many.
+/// A client who sends a text, and has room for all replies to it.
+fn client(alloc: Global, text: &[u8]) -> Result<MemoryPeer, Fail> {
+    Ok(MemoryPeer {
+        source: MemorySource::make(text.to_vec(alloc)?, 5, vec![in alloc; 0]?),
+        sink: MemorySink::make(alloc, 10_000, vec![in alloc; 0]?)?,
+    })
+}
+
+/// A door with these clients.
+fn door_of(alloc: Global, clients: Vec<MemoryPeer>) -> Result<MemoryDoor, Fail>
+    ensures { IfOk result (λ door. door.out ≡ None) }
+{
+    Ok(MemoryDoor::make(alloc, clients, vec![in alloc; 0]?)?)
+}
+
+/// A door with so many clients who load a network and ask nothing, since a reply might be that of what another one
+/// loaded. This call for a client fails, if they are so many.
 fn door(alloc: Global, clients: u32, failing: u32) -> Result<MemoryDoor, Fail>
     ensures { IfOk result (λ door. door.out ≡ None) }
 {
     let mut all = Vec::new(alloc);
     for _number in 0..clients {
-        all.push(peer(alloc, 9, 0, 100, 0)?)?;
+        all.push(client(alloc, b"LOAD\nlink a b 5\nEND\n")?)?;
     }
     Ok(MemoryDoor::make(alloc, all, vec![in alloc; failing]?)?)
 }
@@ -311,6 +329,42 @@ fn two_doors(alloc: Global, one: MemoryDoor, other: MemoryDoor) -> Result<Vec<Me
     Ok(vec![in alloc; one, other]?)
 }
 
+/// The words for a server with these options for its desks and sessions.
+fn serve_words(alloc: Global, desks: &str, sessions: &str) -> Result<Vec<String>, Fail> {
+    Ok(vec![in alloc;
+        String::from_str(alloc, "serve")?,
+        String::from_str(alloc, "--port=4000")?,
+        String::from_str(alloc, desks)?,
+        String::from_str(alloc, sessions)?,
+    ]?)
+}
+
+/// Whether these doors are served so by a run of these words, with a last line. A put may fail, and then it is the
+/// first.
+fn is_served_by<R: Threads + Wait + Sync + AllocGlobal>(
+    rt: &R,
+    words: &[String],
+    doors: &mut Vec<MemoryDoor>,
+    failing_put: u32,
+    status: Status,
+    line: &[u8],
+) -> Result<bool, Fail>
+    requires { All (λ door. door.out ≡ None) doors.old.items }
+{
+    let alloc = rt.alloc();
+    let mut peer = peer(alloc, 9, 0, 100, failing_put)?;
+    let outcome = run(
+        alloc,
+        rt,
+        words,
+        &mut peer.source,
+        &mut peer.sink,
+        doors,
+        &OpenGate,
+    );
+    Ok(outcome.status == status && peer.sink.written() == line)
+}
+
 /// Whether these doors are served so, with a last line, by up to five sessions each. A put may fail, and then it is the
 /// first.
 fn serves<R: Threads + Wait + Sync + AllocGlobal>(
@@ -322,33 +376,23 @@ fn serves<R: Threads + Wait + Sync + AllocGlobal>(
 ) -> Result<bool, Fail>
     requires { All (λ door. door.out ≡ None) doors.old.items }
 {
-    let alloc = rt.alloc();
-    let words = vec![in alloc;
-        String::from_str(alloc, "serve")?,
-        String::from_str(alloc, "--port=4000")?,
-        String::from_str(alloc, "--desks=8")?,
-        String::from_str(alloc, "--sessions=5")?,
-    ]?;
-    let mut peer = peer(alloc, 9, 0, 100, failing_put)?;
-    let outcome = run(
-        alloc,
-        rt,
-        &words,
-        &mut peer.source,
-        &mut peer.sink,
-        doors,
-        &OpenGate,
-    );
-    Ok(outcome.status == status && peer.sink.written() == line)
+    let words = serve_words(rt.alloc(), "--desks=8", "--sessions=5")?;
+    is_served_by(rt, &words, doors, failing_put, status, line)
 }
 
-/// Whether so many clients came back through a door, each with replies to all that it sent.
+/// What one of two clients gets who load a network.
+const ONE_LOADED: [&[u8]; 2] = [
+    b"@1 LOADED routers 2 links 1\n",
+    b"@2 LOADED routers 2 links 1\n",
+];
+
+/// Whether so many clients came back through a door, each with the reply to what it loaded.
 fn came_back(door: &MemoryDoor, clients: usize) -> bool {
     let served = door.served();
     let mut whole = served.len() == clients;
     for client in served {
         let text = client.sink.written();
-        whole &= text == FIRST_REPLIES || text == SECOND_REPLIES;
+        whole &= ONE_LOADED.contains(&text);
     }
     whole
 }
@@ -390,5 +434,133 @@ fn a_failed_door_goes_before_a_failed_sink(rt: HostRuntime) -> Result<(), Fail> 
     assert!(rt; serves(&rt, &mut doors, 1, Status::DoorFault, b"")?);
     let mut sound = two_doors(alloc, door(alloc, 0, 0)?, door(alloc, 0, 0)?)?;
     assert!(rt; serves(&rt, &mut sound, 1, Status::WriteFault, b"")?);
+    Ok(())
+}
+
+#[test]
+fn a_later_client_of_a_door_sees_what_an_earlier_one_loaded(rt: HostRuntime) -> Result<(), Fail> {
+    let alloc = rt.alloc();
+    let clients = vec![in alloc; client(alloc, FIRST)?, client(alloc, b"CUT a b\n")?]?;
+    let mut doors = vec![in alloc; door_of(alloc, clients)?]?;
+    let words = serve_words(alloc, "--desks=1", "--sessions=2")?;
+    let line = b"served 2 versions 1\n";
+    assert!(rt; is_served_by(&rt, &words, &mut doors, 0, Status::Done, line)?);
+    assert_eq!(rt; doors.len(), 1);
+    let served = doors[0].served();
+    assert_eq!(rt; served.len(), 2);
+    assert_eq!(rt; served[0].sink.written(), FIRST_REPLIES);
+    assert_eq!(rt; served[1].sink.written(), b"@1 CUT 5 side a\n".as_slice());
+    Ok(())
+}
+
+/// Three networks.
+const NETWORKS: &[u8] =
+    b"LOAD\nlink a b 5\nEND\nLOAD\nlink r0 r1 1\nlink r0 r2 7\nlink r1 r2 1\nlink r1 r3 3\n\
+    link r1 r4 2\nlink r2 r4 4\nlink r3 r4 1\nlink r3 r5 6\nlink r4 r5 2\nEND\n\
+    LOAD\nlink a b 2\nlink b c 9\nEND\n";
+
+/// What a client gets for `TREE` before `NETWORKS` are loaded, and at each of their versions.
+const TREES: [&[u8]; 4] = [
+    b"@0 NO 6\n",
+    b"@1 TREE 1\nb a 5\n",
+    b"@2 TREE 5\nr1 r4 7\nr2 r0 8\nr3 r1 6\nr4 r2 6\nr5 r3 8\n",
+    b"@3 TREE 2\nb a 2\nc b 9\n",
+];
+
+/// How often a tree is asked for.
+const TREES_ASKED: usize = 100;
+
+/// How often a text begins with a reply, one at once behind the other, and what is behind.
+fn strip_all<'a>(text: &'a [u8], reply: &[u8]) -> (usize, &'a [u8]) {
+    let mut rest = text;
+    for count in 0..TREES_ASKED {
+        match rest.strip_prefix(reply) {
+            Some(behind) => rest = behind,
+            None => return (count, rest),
+        }
+    }
+    (TREES_ASKED, rest)
+}
+
+/// Whether a text is the replies to `TREES_ASKED` requests, each that of its version, and no version falls.
+fn are_trees_in_order(text: &[u8]) -> bool {
+    let mut rest = text;
+    let mut replies = 0usize;
+    for tree in TREES {
+        let (times, behind) = strip_all(rest, tree);
+        replies = replies.saturating_add(times);
+        rest = behind;
+    }
+    replies == TREES_ASKED && rest.is_empty()
+}
+
+#[test]
+fn no_version_falls_while_another_desk_loads(rt: HostRuntime) -> Result<(), Fail> {
+    let alloc = rt.alloc();
+    let asking = b"TREE\n".repeat(alloc, TREES_ASKED)?;
+    let loader = door_of(alloc, vec![in alloc; client(alloc, NETWORKS)?]?)?;
+    let asker = door_of(alloc, vec![in alloc; client(alloc, &asking)?]?)?;
+    let mut doors = two_doors(alloc, loader, asker)?;
+    let words = serve_words(alloc, "--desks=2", "--sessions=1")?;
+    let line = b"served 2 versions 3\n";
+    assert!(rt; is_served_by(&rt, &words, &mut doors, 0, Status::Done, line)?);
+    assert_eq!(rt; doors.len(), 2);
+    let asker = doors[1].served();
+    assert_eq!(rt; asker.len(), 1);
+    assert!(rt; are_trees_in_order(asker[0].sink.written()));
+    Ok(())
+}
+
+/// Sends the texts of `FIRST` one after another, each when the reply to the one before has come. It tells whether all
+/// replies came, and nothing behind them.
+fn converse(mut stream: TcpStream) -> Option<bool> {
+    let mut loaded = [0u8; 28];
+    let mut others = [0u8; 23];
+    stream.write_all(b"LOAD\nlink a b 5\nEND\n").ok()?;
+    stream.read_exact(&mut loaded).ok()?;
+    stream.write_all(b"CUT a b\nBYE\n").ok()?;
+    stream.read_exact(&mut others).ok()?;
+    let behind = stream.read(&mut [0u8; 1]).ok()?;
+    Some(FIRST_REPLIES.starts_with(&loaded) && FIRST_REPLIES.ends_with(&others) && behind == 0)
+}
+
+/// Whether a run of these words serves the clients of a door so, with a last line.
+fn serves_over<R: Threads + Wait + Sync + AllocGlobal>(
+    rt: &R,
+    words: &[String],
+    door: TcpDoor,
+    line: &[u8],
+) -> Option<bool>
+    requires { door.is_out ≡ false }
+{
+    let alloc = rt.alloc();
+    let mut source = MemorySource::make(Vec::new(alloc), 1, Vec::new(alloc));
+    let mut sink = MemorySink::make(alloc, 100, Vec::new(alloc)).ok()?;
+    let mut doors = Vec::from_array(alloc, [door]).ok()?;
+    let outcome = run(
+        alloc,
+        rt,
+        words,
+        &mut source,
+        &mut sink,
+        &mut doors,
+        &OpenGate,
+    );
+    Some(outcome.status == Status::Done && sink.written() == line)
+}
+
+#[test]
+fn a_client_is_served_over_a_socket(rt: HostRuntime) -> Result<(), Fail> {
+    let listener = TcpListener::bind(&rt, SocketAddr::from((Ipv4Addr::LOCALHOST, 0u16)))?;
+    let stream = TcpStream::connect(&rt, listener.local_addr()?)?;
+    let words = serve_words(rt.alloc(), "--desks=1", "--sessions=1")?;
+    let door = TcpDoor::make(listener);
+    let line = b"served 1 versions 1\n";
+    let both = thread::join(
+        &rt,
+        move || converse(stream),
+        || serves_over(&rt, &words, door, line),
+    );
+    assert_eq!(rt; both, (Some(true), Some(true)));
     Ok(())
 }
