@@ -494,6 +494,17 @@ fn are_trees_in_order(text: &[u8]) -> bool {
     replies == TREES_ASKED && rest.is_empty()
 }
 
+/// What the last client of the last door was written.
+fn last_replies(doors: &[MemoryDoor]) -> &[u8] {
+    let Some(door) = doors.last() else {
+        return b"";
+    };
+    match door.served().last() {
+        Some(client) => client.sink.written(),
+        None => b"",
+    }
+}
+
 #[test]
 fn no_version_falls_while_another_desk_loads(rt: HostRuntime) -> Result<(), Fail> {
     let alloc = rt.alloc();
@@ -504,10 +515,22 @@ fn no_version_falls_while_another_desk_loads(rt: HostRuntime) -> Result<(), Fail
     let words = serve_words(alloc, "--desks=2", "--sessions=1")?;
     let line = b"served 2 versions 3\n";
     assert!(rt; is_served_by(&rt, &words, &mut doors, 0, Status::Done, line)?);
-    assert_eq!(rt; doors.len(), 2);
-    let asker = doors[1].served();
-    assert_eq!(rt; asker.len(), 1);
-    assert!(rt; are_trees_in_order(asker[0].sink.written()));
+    assert!(rt; are_trees_in_order(last_replies(&doors)));
+    Ok(())
+}
+
+#[test]
+fn a_server_takes_256_networks(rt: HostRuntime) -> Result<(), Fail> {
+    let alloc = rt.alloc();
+    let mut text = b"LOAD\nlink a b 5\nEND\n".repeat(alloc, 257)?;
+    text.extend_from_slice(b"CUT a b\n")?;
+    let loader = door_of(alloc, vec![in alloc; client(alloc, &text)?]?)?;
+    let mut doors = vec![in alloc; loader]?;
+    let words = serve_words(alloc, "--desks=1", "--sessions=1")?;
+    let line = b"served 1 versions 256\n";
+    assert!(rt; is_served_by(&rt, &words, &mut doors, 0, Status::Done, line)?);
+    let end = b"@256 LOADED routers 2 links 1\n@256 NO 20\n@256 CUT 5 side a\n";
+    assert!(rt; last_replies(&doors).ends_with(end));
     Ok(())
 }
 
