@@ -88,3 +88,18 @@ END' 'CUT b a' 'X' 'BYE'; do
 printf '%s\n' '@1 LOADED routers 2 links 1' '@1 CUT 5 side b' '@1 NO 1' '@1 BYE' >"$room/wanted"
 converse
 judge a_reply_comes_before_the_next_request_is_sent "$?" 0 "$room/wanted"
+
+# within KILOBYTES WORD..: a command in so much memory. (What a shell says of one that is killed stays in stderr.)
+within() {
+    # shellcheck disable=SC2016
+    timeout -k 5 "$seconds" sh -c 'ulimit -v "$1"; shift; "$@"; exit "$?"' sh "$@" \
+        <"$room/nothing" >"$room/stdout" 2>"$room/stderr"
+}
+
+# (what a session does with is too little for eight desks, so no door is asked and no line is written)
+kilobytes=2000
+while ! within "$kilobytes" "$program" plan && [ "$kilobytes" -lt 200000 ]; do
+    kilobytes=$((kilobytes + 500))
+done
+within "$kilobytes" "$program" serve --port=4000 --desks=8 --sessions=1
+judge what_is_enough_for_a_session_is_too_little_for_eight_desks "$?" 4 "$room/nothing"
