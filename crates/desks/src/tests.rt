@@ -126,11 +126,11 @@ fn serves<R: Threads + Wait + Sync + AllocGlobal>(
 #[test]
 fn a_door_that_fails_is_told_and_not_asked_again(rt: HostRuntime) -> Result<(), Fail> {
     let alloc = rt.alloc();
-    let mut doors = two_doors(alloc, door(alloc, 2, ONE, 2)?, door(alloc, 1, ONE, 0)?)?;
-    assert!(rt; serves(&rt, 2, &mut doors, 2, true)?);
-    for door in &doors {
-        assert_eq!(rt; door.served().len(), 1);
-    }
+    let mut doors = two_doors(alloc, door(alloc, 2, ONE, 2)?, door(alloc, 2, ONE, 0)?)?;
+    assert!(rt; serves(&rt, 2, &mut doors, 3, true)?);
+    assert_eq!(rt; doors.len(), 2);
+    assert_eq!(rt; doors[0].served().len(), 1);
+    assert_eq!(rt; doors[1].served().len(), 2);
     Ok(())
 }
 
