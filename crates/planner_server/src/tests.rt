@@ -1,5 +1,5 @@
 //! Whole runs and sessions over sources and sinks in memory: pieces, reads and puts that fail, and workers that meet.
-ghost use Rattle.std.specs.Prelude.{◌≡◌, ◌<◌, [], All, IfOk, None};
+ghost use Rattle.std.specs.Prelude.{◌≡◌, ◌<◌, [], All, IfOk, None, false};
 
 use crate::{Status, run};
 use commit_rule::Ticket;
