@@ -3,6 +3,8 @@
 usage: serve_clients.py PROGRAM
 """
 
+import contextlib
+import signal
 import socket
 import threading
 from concurrent.futures import ThreadPoolExecutor
@@ -95,12 +97,128 @@ def try_port_again(program):
             server.ended(2, 0)
 
 
+def star(number, count):
+    """The capacities of a star with the hub h and these leaves. (No two leaves of a star have the same.)"""
+    return {f"leaf{place}": 100 * number + (7 * place + count) % 11 + 1 for place in range(5 + count)}
+
+
+def star_text(leaves):
+    return [f"link h {leaf} {capacity}" for leaf, capacity in leaves.items()]
+
+
+def star_cut(leaves, one, other):
+    """Of two leaves that with the smaller capacity is cut from all others."""
+    least = min(leaves[one], leaves[other])
+    side = [one] if leaves[one] == least else [name for name in ["h", *leaves] if name != other]
+    return [f"CUT {least} side {' '.join(side)}"]
+
+
+def star_replies(leaves):
+    """The requests, with the lines of their replies behind the version. Each leaf hangs from the hub."""
+    tree = [f"{leaf} h {capacity}" for leaf, capacity in leaves.items()]
+    net = [*(f"router {name}" for name in ["h", *leaves]), *star_text(leaves), "END"]
+    return {
+        "CUT leaf0 leaf4": star_cut(leaves, "leaf0", "leaf4"),
+        "CUT leaf3 leaf1": star_cut(leaves, "leaf3", "leaf1"),
+        "TREE": [f"TREE {len(tree)}", *tree],
+        "NET": [f"NET {len(net)}", *net],
+    }
+
+
+def whole_reply(client):
+    """The version of a reply, and its lines."""
+    version, head = client.line().split(" ", 1)
+    words = head.split(" ")
+    count = int(words[1]) if words[0] in ("TREE", "NET") else 0
+    return int(version[1:]), [head, *(client.line() for _ in range(count))]
+
+
+def load_and_ask(client, stars):
+    """Loads each star and asks about it. Tells the version of each star, and triples of a version, a request and
+    its reply; a version may be that of another client's star."""
+    loaded, told = [], []
+    for leaves in stars:
+        client.send("LOAD", *star_text(leaves), "END", *star_replies(leaves))
+        version, lines = whole_reply(client)
+        same("a reply to LOAD", lines, [f"LOADED routers {1 + len(leaves)} links {len(leaves)}"])
+        loaded.append(version)
+        told.append((version, None, None))
+        told.extend((version, request, lines) for request in star_replies(leaves)
+                    for version, lines in [whole_reply(client)])
+    client.send("BYE")
+    version, lines = whole_reply(client)
+    same("the end of the session", lines, ["BYE"])
+    return loaded, [*told, (version, None, None)]
+
+
+def judge_told(told, star_of):
+    """No version falls in a session, and each reply is that of its version's star."""
+    versions = [version for version, _, _ in told]
+    same("a session's versions", versions, sorted(versions))
+    for version, request, lines in told:
+        if request is not None:
+            same(f"{request} of version {version}", lines, star_replies(star_of[version])[request])
+
+
+def try_stars(program, workers=1):
+    clients, networks = 8, 6
+    met = threading.Barrier(clients)
+
+    def one(number):
+        with Client(server.port) as client:
+            met.wait(SECONDS)
+            stars = [star(number, count) for count in range(networks)]
+            return stars, *load_and_ask(client, stars)
+
+    with serving.serving(program, clients, 1, workers=workers) as server:
+        with ThreadPoolExecutor(clients) as pool:
+            all_told = list(pool.map(one, range(clients)))
+        server.ended(clients, clients * networks)
+    star_of = {version: leaves for stars, loaded, _ in all_told for version, leaves in zip(loaded, stars)}
+    same("the list of versions", sorted(star_of), list(range(1, clients * networks + 1)))
+    for _, _, told in all_told:
+        judge_told(told, star_of)
+
+
+def try_stars_of_workers(program):
+    try_stars(program, workers=4)
+
+
+def try_stopping(program):
+    port = free_port()
+    with serving.serving(program, 2, 1, port) as server, Client(port) as client:
+        client.send(*TWO_ROUTERS)
+        client.receives(f"@1 {TWO_LOADED}")
+        server.process.terminate()
+        output, errors = server.process.communicate(timeout=SECONDS)
+        same("what a program that is stopped writes", (output, errors), (b"", b""))
+        same("its status", server.process.returncode, -signal.SIGTERM)
+    with serving.serving(program, 1, 1, port) as server, Client(port) as client:
+        client.send("CUT a b")
+        client.receives("@0 NO 6")
+        client.leaves(0)
+        server.ended(1, 0)
+
+
+def try_turned_away(program):
+    with serving.serving(program, 1, 1) as server:
+        with Client(server.port) as first, Client(server.port) as waiting:
+            first.leaves(0)
+            with contextlib.suppress(ConnectionError):
+                same("what a client gets that no desk served", waiting.line(), "")
+        server.ended(1, 0)
+
+
 TRIALS = [
     ("eight clients at once, and each cut is that of its version", try_eight),
     ("two clients load into one list", try_one_list),
     ("a client asks the network of the one before", try_next_client),
     ("a port that is taken", try_taken_port),
     ("a port that was served just now", try_port_again),
+    ("eight clients at once, and CUT, TREE and NET are those of their versions", try_stars),
+    ("eight clients at once, and four workers at each desk", try_stars_of_workers),
+    ("a program that is stopped by a signal, and its port behind it", try_stopping),
+    ("a client that still waits when the program ends", try_turned_away),
 ]
 
 if __name__ == "__main__":
