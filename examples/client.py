@@ -1,6 +1,6 @@
 """Asks a server, as `planner serve` is one, and prints its replies.
 
-usage: client.py [--load FILE] [--seconds NUMBER] HOST PORT [REQUEST..]
+usage: client.py [--load FILE] [--seconds NUMBER] [--wait NUMBER] HOST PORT [REQUEST..]
 
 Loads the network text of FILE first, if one is named; its END may be missing. Then it asks each REQUEST,
 which is a line as docs/PROTOCOL.md tells, such as 'CUT a b', and prints each reply before it asks the next:
@@ -9,13 +9,15 @@ which is a line as docs/PROTOCOL.md tells, such as 'CUT a b', and prints each re
 
 The status is 0 where each request was answered, 1 where one was refused, and 2 where the words are wrong or a
 reply is missing. A server whose desks are all busy answers when one is free, so a reply may be waited for;
-it is given up after so many seconds, 60 where no number is named.
+it is given up after so many seconds, 60 where no number is named. Where nobody listens yet, it tries to connect
+for the seconds of --wait, and for none where they aren't named.
 """
 
 import argparse
 import re
 import socket
 import sys
+import time
 
 # The replies that go on over several lines. The third word of their first line tells how many follow it.
 REPLIES_OF_LINES = {b"PATH", b"TREE", b"RUN", b"NET", b"WITNESS", b"CERTIFICATE"}
@@ -85,10 +87,23 @@ def ask(connection, requests):
     return refused
 
 
+def connect(words):
+    """A connection. Where nobody listens, it is tried again, since the server may have been started just now."""
+    deadline = time.monotonic() + words.wait
+    while True:
+        try:
+            return socket.create_connection((words.host, words.port), words.seconds)
+        except ConnectionRefusedError:
+            if time.monotonic() >= deadline:
+                raise
+        time.sleep(0.05)
+
+
 def read_words():
     parser = argparse.ArgumentParser(description="Asks a server of cut trees, and prints its replies.")
     parser.add_argument("--load", metavar="FILE", help="a network text, which is loaded first")
     parser.add_argument("--seconds", type=float, default=60, help="how long a reply is waited for")
+    parser.add_argument("--wait", type=float, default=0, help="how long it waits until somebody listens")
     parser.add_argument("host")
     parser.add_argument("port", type=int)
     parser.add_argument("requests", metavar="REQUEST", nargs="*", type=request_line)
@@ -102,7 +117,7 @@ def main():
         if words.load is not None:
             with open(words.load, "rb") as file:
                 requests.insert(0, [b"LOAD", *network_lines(file.read())])
-        with socket.create_connection((words.host, words.port), words.seconds) as connection:
+        with connect(words) as connection:
             return 1 if ask(connection, requests) else 0
     except TimeoutError:
         why = f"no reply came in {words.seconds:g} seconds"

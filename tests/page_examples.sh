@@ -36,6 +36,8 @@ try_examples() {
         if [ -e "$example.session" ]; then
             try "$title" 0 "$wanted" "$example.session" plan
         else
+            # (the pages serve at port 4000, which may be taken here)
+            sed -i "s/\\<4000\\>/$port/g" "$example.commands"
             (cd "$room/beside" && exec timeout -k 5 "$seconds" sh "$example.commands") \
                 >"$room/stdout" 2>"$room/stderr"
             judge "$title" "$?" 0 "$wanted"
@@ -48,5 +50,6 @@ try_examples() {
 mkdir "$room/beside"
 ln -s "$(readlink -f -- "$program")" "$room/beside/planner"
 ln -s "$PWD/examples" "$room/beside/examples"
+port=$(python3 tests/serving.py)
 try_examples docs/PROTOCOL.md
 try_examples README.md
