@@ -6,6 +6,7 @@ usage: serve_examples.py PROGRAM
 import subprocess
 import sys
 import tempfile
+from concurrent.futures import ThreadPoolExecutor
 
 import serving
 from serving import HOST, SECONDS, TWO_ROUTERS, Client, free_port, same
@@ -70,6 +71,15 @@ def try_client_complaints(program):
         same("whether it complains", why.count(b"client.py: "), 1)
 
 
+def try_early_client(program):
+    port = free_port()
+    with ThreadPoolExecutor(1) as pool:
+        early = pool.submit(ask, port, f"--wait={SECONDS}", ["CUT a b"], status=1)
+        with serving.serving(program, 1, 1, port) as server:
+            same("what an early client prints", early.result(SECONDS), (b"@0 NO 6\n", b""))
+            server.ended(1, 0)
+
+
 def draw(reply, status=0):
     return output_of([sys.executable, "examples/draw_tree.py"], reply, status)
 
@@ -89,6 +99,7 @@ def try_drawing(program):
 TRIALS = [
     ("examples/client.py prints what plan writes", try_client),
     ("examples/client.py complains", try_client_complaints),
+    ("examples/client.py waits until somebody listens", try_early_client),
     ("examples/draw_tree.py draws, and complains", try_drawing),
 ]
 
