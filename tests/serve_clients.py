@@ -133,6 +133,12 @@ def whole_reply(client):
     return int(version[1:]), [head, *(client.line() for _ in range(count))]
 
 
+def answer(client, request):
+    """The next reply, which is that to this request: its version, the request, and its lines."""
+    version, lines = whole_reply(client)
+    return version, request, lines
+
+
 def load_and_ask(client, stars):
     """Loads each star and asks about it. Tells the version of each star, and triples of a version, a request and
     its reply; a version may be that of another client's star."""
@@ -143,8 +149,7 @@ def load_and_ask(client, stars):
         same("a reply to LOAD", lines, [f"LOADED routers {1 + len(leaves)} links {len(leaves)}"])
         loaded.append(version)
         told.append((version, None, None))
-        told.extend((version, request, lines) for request in star_replies(leaves)
-                    for version, lines in [whole_reply(client)])
+        told.extend(answer(client, request) for request in star_replies(leaves))
     client.send("BYE")
     version, lines = whole_reply(client)
     same("the end of the session", lines, ["BYE"])

@@ -9,6 +9,9 @@ import time
 import serving
 from serving import TWO_LOADED, TWO_ROUTERS, Client, same
 
+# How often a long reply is asked for: some 99 MB, which no buffers of a connection hold.
+MANY = 10_000
+
 
 def try_bytes(program):
     with serving.serving(program, 1, 1) as server, Client(server.port) as client:
@@ -80,10 +83,6 @@ def goes_on(client, version):
     client.send("LOAD", "link a b 7", "END", *["CUT a b"] * 100)
     client.receives(f"@{version} {TWO_LOADED}", *[f"@{version} CUT 7 side a"] * 100)
     client.leaves(version)
-
-
-# (some 90 MB of replies, which no buffers of a connection hold)
-MANY = 10_000
 
 
 def begin_unread(client):
