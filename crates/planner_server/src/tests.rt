@@ -1,5 +1,5 @@
 //! Whole runs and sessions over sources and sinks in memory: pieces, reads and puts that fail, and workers that meet.
-ghost use Rattle.std.specs.Prelude.{◌≡◌, ◌<◌, [], All, IfOk, None, false};
+ghost use Rattle.std.specs.Prelude.{◌≡◌, ◌<◌, [], All, IfOk, None};
 
 use crate::{Status, run};
 use commit_rule::Ticket;
@@ -541,19 +541,17 @@ fn converse(mut stream: TcpStream) -> Option<bool> {
     Some(FIRST_REPLIES.starts_with(&loaded) && FIRST_REPLIES.ends_with(&others) && behind == 0)
 }
 
-/// Whether a run of these words serves the clients of a door so, with a last line.
+/// Whether a run of these words serves those who connect to a listener, and is done with this last line.
 fn serves_over<R: Threads + Wait + Sync + AllocGlobal>(
     rt: &R,
     words: &[String],
-    door: TcpDoor,
+    listener: TcpListener,
     line: &[u8],
-) -> Option<bool>
-    requires { door.is_out ≡ false }
-{
+) -> Option<bool> {
     let alloc = rt.alloc();
     let mut source = MemorySource::make(Vec::new(alloc), 1, Vec::new(alloc));
     let mut sink = MemorySink::make(alloc, 100, Vec::new(alloc)).ok()?;
-    let mut doors = Vec::from_array(alloc, [door]).ok()?;
+    let mut doors = Vec::from_array(alloc, [TcpDoor::make(listener)]).ok()?;
     let outcome = run(
         alloc,
         rt,
@@ -571,12 +569,11 @@ fn a_client_is_served_over_a_socket(rt: HostRuntime) -> Result<(), Fail> {
     let listener = TcpListener::bind(&rt, SocketAddr::from((Ipv4Addr::LOCALHOST, 0u16)))?;
     let stream = TcpStream::connect(&rt, listener.local_addr()?)?;
     let words = serve_words(rt.alloc(), "--desks=1", "--sessions=1")?;
-    let door = TcpDoor::make(listener);
     let line = b"served 1 versions 1\n";
     let both = thread::join(
         &rt,
         move || converse(stream),
-        || serves_over(&rt, &words, door, line),
+        || serves_over(&rt, &words, listener, line),
     );
     assert_eq!(rt; both, (Some(true), Some(true)));
     Ok(())
