@@ -30,10 +30,10 @@ rounds=5
 . bench/measuring.sh
 compile reply_server && compile serve_load || exit 1
 
-# make_session NAME COUNT: a session that loads the network on the input, and asks for so many cuts of it, with
-# the replies to it.
+# make_session NAME COUNT: a session that loads the network in the file `network`, and asks for so many cuts of
+# it, with the replies to it.
 make_session() {
-    awk -v word=CUT -v count="$2" -f bench/requests.awk >"$room/$1"
+    awk -v word=CUT -v count="$2" -f bench/requests.awk "$room/network" >"$room/$1"
     "$program" plan <"$room/$1" >"$room/$1.replies" || exit 1
 }
 
@@ -46,8 +46,8 @@ load() {
         3>>"$room/$name" || exit 1
 }
 
-# ours DESKS: the words of the program that serves one client at each of so many desks.
-ours() {
+# words_of DESKS: the words of the program that serves one client at each of so many desks.
+words_of() {
     printf '%s serve --desks=%s --sessions=1 --workers=1 --port=' "$program" "$1"
 }
 
@@ -55,7 +55,7 @@ ours() {
 time_clients() {
     for _ in $(seq "$rounds"); do
         # shellcheck disable=SC2046
-        load ours "$1" "$2" 0 short $(ours "$1")
+        load ours "$1" "$2" 0 short $(words_of "$1")
         load theirs "$1" "$2" 0 short "$room/reply_server" "$1" "$room/short.replies" --port=
     done
     need_done ours theirs
@@ -72,7 +72,7 @@ time_clients() {
 time_waits() {
     for _ in $(seq "$rounds"); do
         # shellcheck disable=SC2046
-        load waits 1 1 "$3" middling $(ours "$2")
+        load waits 1 1 "$3" middling $(words_of "$2")
     done
     need_done waits
     printf '%-40s %8s %8s\n' "$1" "$(median_of waits 5)" "$(median_of waits 6)" >&4
@@ -81,9 +81,12 @@ time_waits() {
 
 exec 4>&1 >"$room/served"
 
-awk -v kind=towns -f bench/tree_networks.awk | make_session short "$requests"
-awk -v kind=random_400_1600 -f bench/tree_networks.awk | make_session middling "$requests"
-awk -v loads=1 -f bench/largest_texts.awk | sed 1d | make_session largest 10
+awk -v kind=towns -f bench/tree_networks.awk >"$room/network"
+make_session short "$requests"
+awk -v kind=random_400_1600 -f bench/tree_networks.awk >"$room/network"
+make_session middling "$requests"
+awk -v loads=1 -f bench/largest_texts.awk | sed 1d >"$room/network"
+make_session largest 10
 
 {
     printf 'medians of %s runs, ours and the server in C in turn; the ratios are of replies in a second, and of\n' \
@@ -101,9 +104,9 @@ printf '\nmicroseconds until the reply to a CUT, half of them and 99 in 100\n\n'
 time_waits 'nobody loads' 1 0
 time_waits 'another client loads 200 networks' 2 200
 
-# (seven clients load once each, and one the others)
+# (seven clients load once each, and the eighth one all the others)
 # shellcheck disable=SC2046
-load memory 7 1 249 largest $(ours 8)
+load memory 7 1 249 largest $(words_of 8)
 need_done memory
 awk -v peak="$(peak_of memory)" 'BEGIN {
     printf "\npeak memory of 256 records of the largest network, 8 desks: %.1f MB (aim: 170)\n", peak / 1000
