@@ -210,7 +210,7 @@ def try_turned_away(program):
         with Client(server.port) as first, Client(server.port) as waiting:
             first.leaves(0)
             with contextlib.suppress(ConnectionError):
-                same("what a client gets that no desk served", waiting.line(), "")
+                waiting.is_left()
         server.ended(1, 0)
 
 

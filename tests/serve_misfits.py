@@ -18,7 +18,8 @@ def try_bytes(program):
         for byte in "\n".join([*TWO_ROUTERS, "CUT a b", "BYE", ""]).encode():
             client.connection.sendall(bytes([byte]))
             time.sleep(0.001)
-        client.receives(f"@1 {TWO_LOADED}", "@1 CUT 5 side a", "@1 BYE", "")
+        client.receives(f"@1 {TWO_LOADED}", "@1 CUT 5 side a", "@1 BYE")
+        client.is_left()
         server.ended(1, 1)
 
 
@@ -54,7 +55,8 @@ def try_closing(program):
         with Client(server.port) as ending:
             ending.send("CUT a b")
             ending.connection.shutdown(socket.SHUT_WR)
-            ending.receives("@0 NO 6", "")
+            ending.receives("@0 NO 6")
+            ending.is_left()
         with Client(server.port) as client:
             client.send(*TWO_ROUTERS)
             client.receives(f"@1 {TWO_LOADED}")
@@ -120,7 +122,7 @@ def try_late_reading(program):
         for _ in range(MANY):
             version, head = late.line().split(" ", 1)
             same("a late reply", [head, *(late.line() for _ in nets[version][1:])], nets[version])
-        late.receives("")
+        late.is_left()
         server.ended(2, 2)
 
 

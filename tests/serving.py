@@ -117,7 +117,10 @@ class Client:
         self.connection.sendall("".join(f"{line}\n" for line in lines).encode())
 
     def line(self):
-        return self.replies.readline().decode().rstrip("\n")
+        line = self.replies.readline()
+        if not line.endswith(b"\n"):
+            raise Wrong(f"the session ended where a line should be; behind the last one stands {line!r}")
+        return line.decode().removesuffix("\n")
 
     def receives(self, *lines):
         for wanted in lines:
@@ -128,11 +131,15 @@ class Client:
         if select.select([self.connection], [], [], GLANCE)[0]:
             raise Wrong(f"a reply that should not have come is {self.line()!r}")
 
+    def is_left(self):
+        """Waits for the end of the session, before which nothing comes."""
+        same("what comes behind the last reply", self.replies.read(), b"")
+
     def leaves(self, version):
         """Asks for the end of the session, behind which nothing comes."""
         self.send("BYE")
         self.receives(f"@{version} BYE")
-        same("what comes behind the BYE", self.replies.read(), b"")
+        self.is_left()
 
 
 def verdict(program, name, attempt):
