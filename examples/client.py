@@ -99,13 +99,19 @@ def connect(words):
         time.sleep(0.05)
 
 
+def port_number(word):
+    if not 0 < int(word) < 65536:
+        raise argparse.ArgumentTypeError("a port is a number from 1 to 65535")
+    return int(word)
+
+
 def read_words():
     parser = argparse.ArgumentParser(description="Asks a server of cut trees, and prints its replies.")
     parser.add_argument("--load", metavar="FILE", help="a network text, which is loaded first")
     parser.add_argument("--seconds", type=float, default=60, help="how long a reply is waited for")
     parser.add_argument("--wait", type=float, default=0, help="how long it waits until somebody listens")
     parser.add_argument("host")
-    parser.add_argument("port", type=int)
+    parser.add_argument("port", type=port_number)
     parser.add_argument("requests", metavar="REQUEST", nargs="*", type=request_line)
     return parser.parse_args()
 
@@ -121,7 +127,7 @@ def main():
             return 1 if ask(connection, requests) else 0
     except TimeoutError:
         why = f"no reply came in {words.seconds:g} seconds"
-    except (OSError, OverflowError, NoReply) as error:
+    except (OSError, OverflowError, ValueError, NoReply) as error:
         why = str(error)
     print(f"client.py: {why}", file=sys.stderr)
     return 2
