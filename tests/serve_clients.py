@@ -205,6 +205,17 @@ def try_stopping(program):
         server.ended(1, 0)
 
 
+def try_other_addresses(program):
+    # (127.0.0.2 is on the loopback as well, and leads to whoever listens on all addresses)
+    with serving.serving(program, 1, 1) as server, Client(server.port) as client:
+        with socket.socket() as other:
+            other.settimeout(SECONDS)
+            is_met = other.connect_ex(("127.0.0.2", server.port)) == 0
+        same("whether somebody listens at another address", is_met, False)
+        client.leaves(0)
+        server.ended(1, 0)
+
+
 def try_turned_away(program):
     with serving.serving(program, 1, 1) as server:
         with Client(server.port) as first, Client(server.port) as waiting:
@@ -224,6 +235,7 @@ TRIALS = [
     ("eight clients at once, and four workers at each desk", try_stars_of_workers),
     ("a program that is stopped by a signal, and its port behind it", try_stopping),
     ("a client that still waits when the program ends", try_turned_away),
+    ("nobody listens on another address", try_other_addresses),
 ]
 
 if __name__ == "__main__":
