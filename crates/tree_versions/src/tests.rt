@@ -302,9 +302,12 @@ fn publish_one_too_many<B: Board, R: Wait + Abort + AllocGlobal>(
     let mut shelf = DeskShelf::make(alloc, rt, seat, &publisher);
     fill(rt, &mut shelf, &record)?;
     let mut seat = shelf.into_seat();
-    let Err((BoardFault::Full(note), _record)) = publisher.publish(alloc, rt, &mut seat, record)
-    else {
-        return Err(Fail::from("not refused so"));
+    let Err(refused) = publisher.publish(alloc, rt, &mut seat, record) else {
+        return Err(Fail::from("accepted"));
+    };
+    let (fault, _record) = refused;
+    let BoardFault::Full(note) = fault else {
+        return Err(Fail::from("no memory"));
     };
     assert_eq!(rt; note.version(), MOST_RECORDS);
     seats.push_reserved(seat);
