@@ -30,6 +30,13 @@ def load_and_cut(client, capacities):
     return loaded, cuts
 
 
+def judge_cuts(versions, cuts, capacity_of):
+    """No version falls in a session, and each cut is that of its version."""
+    same("a session's versions", versions, sorted(versions))
+    for version, value in cuts:
+        same(f"the cut of version {version}", value, capacity_of[version])
+
+
 def try_eight(program):
     clients, networks = 8, 12
     met = threading.Barrier(clients)
@@ -48,9 +55,7 @@ def try_eight(program):
     same("the list of versions", sorted(capacity_of), list(range(1, clients * networks + 1)))
     for _, loaded, cuts in told:
         seen = [version for at_load, (at_cut, _) in zip(loaded, cuts) for version in (at_load, at_cut)]
-        same("a session's versions", seen, sorted(seen))
-        for version, value in cuts:
-            same(f"the cut of version {version}", value, capacity_of[version])
+        judge_cuts(seen, cuts, capacity_of)
 
 
 def try_one_list(program):

@@ -3,9 +3,9 @@
 #
 # Applies these patches, or each of tests/wrong_bodies, to a copy of the crates. Each is a body that meets
 # every contract and is wrong all the same, since none tells of threads that work at once, or that a look
-# finds what is there: no two workers are at the gate at once, desks work one after another, or a seat never
-# takes over what it wasn't told. It is proved, and a test fails: the first line of the patch names its
-# crate and the test. That takes minutes, so neither tests/run nor .ci/run calls it.
+# finds what is there: no two workers are at the gate at once, desks work one after another or have one worker
+# each, or a seat never takes over what it wasn't told. It is proved, and a test fails: the first line of the
+# patch names its crate and the test. That takes minutes, so neither tests/run nor .ci/run calls it.
 #
 # The last line is `N passed, M failed`, and the status is 0 where M is 0.
 set -u

@@ -28,7 +28,7 @@ use worker_gate::Gate;
 /// How doors are served.
 #[derive(Clone, Copy)]
 pub struct Opening {
-    /// How many desks there are at most, from 1 to [`MOST_DESKS`]. So many doors are served.
+    /// How many desks there are at most, from 1 to [`MOST_DESKS`]. At most so many doors are served, the first ones.
     pub desks: u32,
     /// How many clients of each door are served at most.
     pub sessions: u32,

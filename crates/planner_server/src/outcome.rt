@@ -7,8 +7,8 @@ use tree_versions::Record;
 #[derive(Clone, Copy, PartialEq, Eq, Debug)]
 pub enum Status {
     /// All requests were answered, up to a BYE or the end of the input; or a certificate was accepted, and the
-    /// line that says so is written; or the summary of a made network is written; or the clients of all doors were
-    /// served, and the last line is written.
+    /// line that says so is written; or the summary of a made network is written; or the clients of the doors that
+    /// `serve` has desks for were served, and the last line is written.
     Done,
     /// The words are no command. Nothing was read or written.
     BadWords,
@@ -23,8 +23,8 @@ pub enum Status {
     /// [`MOST_BYTES`](line_reader::MOST_BYTES) were read, and neither the end of the input nor a BYE came; or
     /// nothing that settles whether they are a certificate.
     TooLong,
-    /// A door failed. All other doors were served as at `Done`, and the last line is written, or a front of it where
-    /// the sink failed as well.
+    /// A door failed, or several. Those that didn't were served as at `Done`, and the last line is written, or a front
+    /// of it where the sink failed as well.
     DoorFault,
     /// A certificate has a fault, and the line that tells it is written.
     NotAccepted,

@@ -255,7 +255,8 @@ impl Gate for TwoAtOnce {
     }
 }
 
-/// Whether in a run of these words over `TWO_CUTS`, which is done and writes this, two workers computed cuts at once.
+/// Whether in a run of these words over `TWO_CUTS`, and over a door with a client who sends it, two workers computed
+/// cuts at once. The run is done and writes this.
 fn two_meet<R: Threads + Wait + Sync + AllocGlobal>(
     rt: &R,
     words: &[String],
@@ -268,15 +269,9 @@ fn two_meet<R: Threads + Wait + Sync + AllocGlobal>(
     };
     let mut source = MemorySource::make(TWO_CUTS.to_vec(alloc)?, 99, vec![in alloc; 0]?);
     let mut sink = MemorySink::make(alloc, 100, vec![in alloc; 0]?)?;
-    let outcome = run(
-        alloc,
-        rt,
-        words,
-        &mut source,
-        &mut sink,
-        &mut no_doors(alloc),
-        &gate,
-    );
+    let clients = vec![in alloc; client(alloc, TWO_CUTS)?]?;
+    let mut doors = vec![in alloc; door_of(alloc, clients)?]?;
+    let outcome = run(alloc, rt, words, &mut source, &mut sink, &mut doors, &gate);
     let met = gate.twos.load(Ordering::SeqCst) > 0 && gate.failures.load(Ordering::SeqCst) == 0;
     Ok(met && outcome.status == Status::Done && sink.written() == text)
 }
@@ -290,6 +285,9 @@ fn as_many_workers_build_a_tree_as_the_words_ask_for(rt: HostRuntime) -> Result<
     ]?;
     assert!(rt; two_meet(&rt, &words, TWO_CUTS_REPLIES)?);
     assert!(rt; two_meet(&rt, &made_words(alloc)?, MADE_SUMMARY)?);
+    let mut words = serve_words(alloc, "--desks=1", "--sessions=1")?;
+    words.push(String::from_str(alloc, "--workers=2")?)?;
+    assert!(rt; two_meet(&rt, &words, b"served 1 versions 1\n")?);
     Ok(())
 }
 
