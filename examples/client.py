@@ -19,8 +19,8 @@ import socket
 import sys
 import time
 
-# The replies that go on over several lines. The third word of their first line tells how many follow it.
-REPLIES_OF_LINES = {b"PATH", b"TREE", b"RUN", b"NET", b"WITNESS", b"CERTIFICATE"}
+# The first line of a reply that goes on over several lines, and tells how many follow.
+OF_LINES = re.compile(rb"@[0-9]+ (?:PATH|TREE|RUN|NET|WITNESS|CERTIFICATE) ([0-9]+)\n")
 
 MOST_LINE_BYTES = 512
 END = re.compile(rb"[ \t]*END[ \t]*\r?")
@@ -52,10 +52,8 @@ def request_line(word):
 
 def follow(head):
     """How many lines follow the first line of a reply."""
-    words = head.split()
-    if len(words) == 3 and words[1] in REPLIES_OF_LINES:
-        return int(words[2])
-    return 0
+    of_lines = OF_LINES.fullmatch(head)
+    return int(of_lines[1]) if of_lines else 0
 
 
 def next_line(stream):
@@ -92,7 +90,11 @@ def connect(words):
     deadline = time.monotonic() + words.wait
     while True:
         try:
-            return socket.create_connection((words.host, words.port), words.seconds)
+            connection = socket.create_connection((words.host, words.port), max(words.seconds, 0.001))
+            # (one whose own port happens to be that at which nobody listens meets itself)
+            if connection.getsockname() != connection.getpeername():
+                return connection
+            connection.close()
         except ConnectionRefusedError:
             if time.monotonic() >= deadline:
                 raise
@@ -100,16 +102,22 @@ def connect(words):
 
 
 def port_number(word):
-    if not 0 < int(word) < 65536:
+    if not word.isdecimal() or not 0 < int(word) < 65536:
         raise argparse.ArgumentTypeError("a port is a number from 1 to 65535")
     return int(word)
+
+
+def seconds(word):
+    if not 0 <= float(word) <= 10**6:
+        raise argparse.ArgumentTypeError("seconds are a number from 0 to a million")
+    return float(word)
 
 
 def read_words():
     parser = argparse.ArgumentParser(description="Asks a server of cut trees, and prints its replies.")
     parser.add_argument("--load", metavar="FILE", help="a network text, which is loaded first")
-    parser.add_argument("--seconds", type=float, default=60, help="how long a reply is waited for")
-    parser.add_argument("--wait", type=float, default=0, help="how long it waits until somebody listens")
+    parser.add_argument("--seconds", type=seconds, default=60, help="how long a reply is waited for")
+    parser.add_argument("--wait", type=seconds, default=0, help="how long it waits until somebody listens")
     parser.add_argument("host")
     parser.add_argument("port", type=port_number)
     parser.add_argument("requests", metavar="REQUEST", nargs="*", type=request_line)
@@ -129,6 +137,8 @@ def main():
         why = f"no reply came in {words.seconds:g} seconds"
     except (OSError, OverflowError, ValueError, NoReply) as error:
         why = str(error)
+    except KeyboardInterrupt:
+        return 130
     print(f"client.py: {why}", file=sys.stderr)
     return 2
 

@@ -43,16 +43,29 @@ def edges(lines):
     return found
 
 
+def read_tree(replies):
+    """The edges of the first reply to TREE. All is read, so that who writes the replies isn't broken off."""
+    tree = edges(replies)
+    for _ in replies:
+        pass
+    return tree
+
+
+def drawing(tree):
+    """The text for Graphviz."""
+    lines = [f'    "{above}" -- "{child}" [label="{width}"];\n' for child, above, width in tree]
+    return "".join(["graph cut_tree {\n", *lines, "}\n"])
+
+
 def main():
     try:
-        tree = edges(iter(sys.stdin))
-    except (NoTree, UnicodeDecodeError) as error:
+        sys.stdout.write(drawing(read_tree(sys.stdin or iter(()))))
+        sys.stdout.flush()
+    except (NoTree, OSError, UnicodeDecodeError) as error:
         print(f"draw_tree.py: {error}", file=sys.stderr)
         return 1
-    print("graph cut_tree {")
-    for child, above, width in tree:
-        print(f'    "{above}" -- "{child}" [label="{width}"];')
-    print("}")
+    except KeyboardInterrupt:
+        return 130
     return 0
 
 

@@ -13,6 +13,13 @@ import serving
 from serving import DOOR_FAULT, HOST, SECONDS, TWO_LOADED, TWO_ROUTERS, Client, free_port, same
 
 
+def begins_beside_others(client, met):
+    """Gets a first reply, and waits until the others have theirs: each of them has a desk of its own then."""
+    client.send("TREE")
+    client.receives("@0 NO 6")
+    met.wait(SECONDS)
+
+
 def load_and_cut(client, capacities):
     """Loads a network of each of these capacities and asks for its cut. Tells the version of each LOADED, and
     pairs of version and value of the cuts."""
@@ -43,7 +50,7 @@ def try_eight(program):
 
     def one(number):
         with Client(server.port) as client:
-            met.wait(SECONDS)
+            begins_beside_others(client, met)
             capacities = [1 + number * networks + count for count in range(networks)]
             return capacities, *load_and_cut(client, capacities)
 
@@ -64,6 +71,8 @@ def try_one_list(program):
         first.receives(f"@1 {TWO_LOADED}", "@1 CUT 5 side a")
         second.send("LOAD", "link a b 7", "END", "CUT a b")
         second.receives(f"@2 {TWO_LOADED}", "@2 CUT 7 side a")
+        first.send("CUT a b")
+        first.receives("@2 CUT 7 side a")
         second.leaves(2)
         first.send("LOAD", "link a b 9", "END", "CUT a b")
         first.receives(f"@3 {TWO_LOADED}", "@3 CUT 9 side a")
@@ -176,7 +185,7 @@ def try_stars(program, workers=1):
 
     def one(number):
         with Client(server.port) as client:
-            met.wait(SECONDS)
+            begins_beside_others(client, met)
             stars = [star(number, count) for count in range(networks)]
             return stars, *load_and_ask(client, stars)
 

@@ -30,6 +30,9 @@ DOOR_FAULT = 6
 TWO_ROUTERS = ["LOAD", "link a b 5", "END"]
 TWO_LOADED = "LOADED routers 2 links 1"
 
+# What is raised where a reply has other words than are looked for.
+MISREAD = (ValueError, LookupError)
+
 
 class Wrong(Exception):
     """The program did something else than it should."""
@@ -146,7 +149,7 @@ def verdict(program, name, attempt):
     try:
         attempt(program)
         return f"right\t{name}"
-    except (Wrong, subprocess.SubprocessError, OSError, ValueError, threading.BrokenBarrierError) as wrong:
+    except (Wrong, subprocess.SubprocessError, OSError, *MISREAD, threading.BrokenBarrierError) as wrong:
         return f"wrong\t{name}\t{type(wrong).__name__}: {' '.join(str(wrong).split())}"
 
 

@@ -161,10 +161,10 @@ where
 }
 
 /// Serves the clients of the first doors, as many as there are desks at most, each desk at a door of its own and all
-/// at the same time. All clients load networks into one list. A session that ends by a fault, or that takes too many
-/// bytes, ends alone: its desk goes on with the next client. Each client is given back to its door. A door that fails
-/// isn't asked again. Where fewer desks can be had than are asked for, the doors that are left over are served behind
-/// a desk's own.
+/// at the same time. All clients load networks into one list. Neither a fault in a session nor one that takes too many
+/// bytes is the desk's end: the client goes back through the door, as each does, and the next one comes. A desk is done
+/// when its door has failed, which is asked no more then. Where fewer desks can be had than are asked for, the doors
+/// that are left over are served behind a desk's own.
 ///
 /// The contract tells for each door what its clients were answered, one after another, over the list that is handed
 /// back, and that the networks which they loaded are as many as it has. It doesn't say that desks worked at once.

@@ -9,11 +9,11 @@ use session::{Session, SessionEnd, serve_session};
 use std::alloc::Global;
 use std::io::{Read, Write};
 use std::net::{Ipv4Addr, SocketAddr, TcpListener, TcpStream};
-use std::sync::Wait;
 use std::sync::atomic::{AtomicU64, Ordering};
+use std::sync::{Arc, Wait};
 use std::test::Fail;
 use std::thread::{self, Threads};
-use tree_versions::SoloShelf;
+use tree_versions::{Record, SoloShelf};
 use wires::{MemoryDoor, MemoryPeer, MemorySink, MemorySource, TcpDoor};
 use worker_gate::{Gate, OpenGate, compute};
 
@@ -337,16 +337,16 @@ fn serve_words(alloc: Global, desks: &str, sessions: &str) -> Result<Vec<String>
     ]?)
 }
 
-/// Whether these doors are served so by a run of these words, with a last line. A put may fail, and then it is the
-/// first.
-fn is_served_by<R: Threads + Wait + Sync + AllocGlobal>(
+/// The records of a run of these words, which serves these doors, and ends so with a last line; none where it ends
+/// otherwise. A put may fail, and then it is the first.
+fn records_served<R: Threads + Wait + Sync + AllocGlobal>(
     rt: &R,
     words: &[String],
     doors: &mut Vec<MemoryDoor>,
     failing_put: u32,
     status: Status,
     line: &[u8],
-) -> Result<bool, Fail>
+) -> Result<Option<Vec<Arc<Record>>>, Fail>
     requires { All (λ door. door.out ≡ None) doors.old.items }
 {
     let alloc = rt.alloc();
@@ -360,7 +360,25 @@ fn is_served_by<R: Threads + Wait + Sync + AllocGlobal>(
         doors,
         &OpenGate,
     );
-    Ok(outcome.status == status && peer.sink.written() == line)
+    if outcome.status != status || peer.sink.written() != line {
+        return Ok(None);
+    }
+    Ok(Some(outcome.records))
+}
+
+/// Whether these doors are served so by a run of these words, with a last line. A put may fail, and then it is the
+/// first.
+fn is_served_by<R: Threads + Wait + Sync + AllocGlobal>(
+    rt: &R,
+    words: &[String],
+    doors: &mut Vec<MemoryDoor>,
+    failing_put: u32,
+    status: Status,
+    line: &[u8],
+) -> Result<bool, Fail>
+    requires { All (λ door. door.out ≡ None) doors.old.items }
+{
+    Ok(records_served(rt, words, doors, failing_put, status, line)?.is_some())
 }
 
 /// Whether these doors are served so, with a last line, by up to five sessions each. A put may fail, and then it is the
@@ -451,6 +469,13 @@ const NETWORKS: &[u8] =
     link r1 r4 2\nlink r2 r4 4\nlink r3 r4 1\nlink r3 r5 6\nlink r4 r5 2\nEND\n\
     LOAD\nlink a b 2\nlink b c 9\nEND\n";
 
+/// How many routers they have.
+const NETWORK_ROUTERS: [u32; 3] = [2, 6, 3];
+
+/// What the client gets who loads them, and nobody else loads.
+const NETWORKS_REPLIES: &[u8] = b"@1 LOADED routers 2 links 1\n@2 LOADED routers 6 links 9\n\
+    @3 LOADED routers 3 links 2\n";
+
 /// What a client gets for `TREE` before `NETWORKS` are loaded, and at each of their versions.
 const TREES: [&[u8]; 4] = [
     b"@0 NO 6\n",
@@ -486,6 +511,12 @@ fn are_trees_in_order(text: &[u8]) -> bool {
     replies == TREES_ASKED && rest.is_empty()
 }
 
+/// Whether these are the records of `NETWORKS`, which differ in how many routers they have.
+fn are_networks(records: &[Arc<Record>]) -> bool {
+    let routers = records.iter().map(|record| record.sheet().net().routers());
+    routers.eq(NETWORK_ROUTERS)
+}
+
 /// What the last client of the last door was written.
 fn last_replies(doors: &[MemoryDoor]) -> &[u8] {
     let Some(door) = doors.last() else {
@@ -506,8 +537,11 @@ fn no_version_falls_while_another_desk_loads(rt: HostRuntime) -> Result<(), Fail
     let mut doors = two_doors(alloc, loader, asker)?;
     let words = serve_words(alloc, "--desks=2", "--sessions=1")?;
     let line = b"served 2 versions 3\n";
-    assert!(rt; is_served_by(&rt, &words, &mut doors, 0, Status::Done, line)?);
+    let records = records_served(&rt, &words, &mut doors, 0, Status::Done, line)?;
+    assert!(rt; records.is_some_and(|records| are_networks(&records)));
     assert!(rt; are_trees_in_order(last_replies(&doors)));
+    assert_eq!(rt; doors.len(), 2);
+    assert_eq!(rt; last_replies(&doors[..1]), NETWORKS_REPLIES);
     Ok(())
 }
 

@@ -196,7 +196,7 @@ impl<B: Board, R: Wait + Drop> Publisher<B, BoardWriter<B, R>> {
     /// each record of the list, and waits for others who publish, and for looks that are in the copy that it writes.
     ///
     /// # Errors
-    /// [`BoardFault::Full`] exactly where [`MOST_RECORDS`] records are held, and [`BoardFault::NoMemory`] where memory
+    /// [`BoardFault::Full`] only where [`MOST_RECORDS`] records are held, and [`BoardFault::NoMemory`] where memory
     /// was wanted. The record is handed back.
     pub fn publish<W: Wait>(
         &self,

@@ -67,7 +67,7 @@ pub trait Shelf {
     /// `shelf.publish(new)` gives `Ok(3)`.
     ///
     /// # Errors
-    /// [`PublishFault::Full`] exactly where [`MOST_RECORDS`] records are held, and
+    /// [`PublishFault::Full`] only where [`MOST_RECORDS`] records are held, and
     /// [`PublishFault::NoMemory`] where memory was wanted. Nothing was published then.
     fn publish(&mut self, new: Arc<Record>) -> Result<u32, PublishFault>
         ensures published { Publishes (alone self.old) (seen self.old) (seen self.new) (arc_value new)
